@@ -1,0 +1,5 @@
+pub mod Views
+pub mod Facts
+pub mod Bindings
+pub mod Rows
+mod Turns
