@@ -1,0 +1,1 @@
+// 01's starred cases as one table, and the theorem that the definitions give every one. No code. Uses all crates below the desk and the desk.
