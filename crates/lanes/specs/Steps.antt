@@ -316,7 +316,7 @@ afterSwing l last left =
     (goesTo l (TakeLow (grabOf Writing) (record { places = left; row = last .row; column = last .column })))
 
 unfoldable pub advanceAt : Sizes → Lane → Place → Seen → Stage → Moved
-advanceAt z l last seen Idle = record { lane = l; answer = GoesOn }
+advanceAt z l last seen Idle = goesTo l Idle
 advanceAt z l last seen (TakeMain g) = goesTo l (onTry (seen .tried) TakeMain (TakeFirst (grabOf (modeOf (l .op)))))
 advanceAt z l last seen (TakeFirst g) = goesTo l (onTry (seen .tried) TakeFirst (SeekFirst 0))
 advanceAt z l last seen (SeekFirst column) =

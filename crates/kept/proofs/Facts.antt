@@ -1,0 +1,83 @@
+-- The standing check as facts, over the slots, locks, lanes and places seen as functions of their index.
+-- Assumes nothing.
+use mathlib.Core.Path.{_≡_}
+use mathlib.Core.Logic.{_⊎_}
+use mathlib.Core.Bool.{true, false, cond}
+use Prim.Native.Nat.{ℕ, _+_, _-_, _≤_, _<_}
+use lib.Dec.{eqb}
+use Rattle.lists.specs.Below.{sumBelow}
+use Rattle.lists.proofs.Below.{Each}
+use Rattle.places.specs.declared.Sizes.{Sizes}
+use Rattle.places.specs.Table.{maxKey, homeOne, homeTwo, slotIndex}
+use Rattle.slots.specs.declared.Slot.{Slot}
+use Rattle.slots.specs.Slot.{isFull, isEmpty, holds}
+use Rattle.slots.proofs.Facts.{SoundSlots}
+use Rattle.locks.specs.declared.Lock.{Lock}
+use Rattle.locks.specs.declared.Part.{Part}
+use Rattle.locks.proofs.Grabs.{Counts}
+use Rattle.locks.specs.Locks.{partFlag, partCount, partWrites, partReads}
+use Rattle.paths.specs.declared.Place.{Place}
+use Rattle.paths.specs.Path.{noPlace, otherRow}
+use Rattle.lanes.specs.declared.Lane.{Lane}
+use Rattle.lanes.specs.declared.RowClaim.{RowClaim}
+use Rattle.lanes.specs.declared.SlotClaim.{SlotClaim}
+use Rattle.lanes.specs.declared.SlotClaim.the-variants.{NoClaim, HasKey, HasPair, HasRoom}
+use Rattle.lanes.specs.declared.Claims.{Claims}
+use Rattle.lanes.specs.Steps.{pathLength}
+use Rattle.lanes.specs.Claims.{laneIn, gripOf, share, claimsOf}
+
+-- ---- claims
+
+pub record RowClaimed (z : Sizes) (v : ℕ → Slot) (key : ℕ) (c : RowClaim) : Type 0 where
+  pub lacks : (i : ℕ) → i < c .lacking → holds (v (slotIndex z (c .row) i)) key ≡ false
+  pub fulls : (i : ℕ) → i < c .full → isFull (v (slotIndex z (c .row) i)) ≡ true
+
+abbrev pub SlotClaimed : Sizes → (ℕ → Slot) → ℕ → SlotClaim → Type 0
+SlotClaimed z v key NoClaim = Unit {0}
+SlotClaimed z v key (HasKey row column) = holds (v (slotIndex z row column)) key ≡ true
+SlotClaimed z v key (HasPair row column value) = (holds (v (slotIndex z row column)) key ≡ true) × (v (slotIndex z row column) .value ≡ value)
+SlotClaimed z v key (HasRoom row column) = isEmpty (v (slotIndex z row column)) ≡ true
+
+pub record Claimed (z : Sizes) (v : ℕ → Slot) (key : ℕ) (c : Claims) : Type 0 where
+  pub one : RowClaimed z v key (c .one)
+  pub two : RowClaimed z v key (c .two)
+  pub slot : SlotClaimed z v key (c .slot)
+
+-- ---- the path
+
+-- the last of n places, zeros where there is none
+abbrev pub lastIn : (ℕ → Place) → ℕ → Place
+lastIn π n = cond (eqb n 0) noPlace (π (n - 1))
+
+abbrev pub lastFor : (ℕ → Place) → Lane → Place
+lastFor π l = lastIn π (pathLength (l .stage))
+
+pub record PlaceFacts (z : Sizes) (p : Place) : Type 0 where
+  pub rowIn : p .row < z .rows
+  pub columnIn : p .column < z .columns
+  pub keyIn : p .key ≤ maxKey
+  pub home : (p .row ≡ homeOne z (p .key)) ⊎ (p .row ≡ homeTwo z (p .key))
+
+-- n places stand on the path, each next one in the other row of the one before
+pub record PathFacts (z : Sizes) (π : ℕ → Place) (n : ℕ) : Type 0 where
+  pub places : (i : ℕ) → i < n → PlaceFacts z (π i)
+  pub links : (i : ℕ) → i + 1 < n → π (i + 1) .row ≡ otherRow z (π i)
+  pub rest : (i : ℕ) → n ≤ i → i < z .rows + 2 → π i ≡ noPlace
+
+-- ---- locks
+
+-- the lanes' parts in lock k, added up by a measure of parts
+abbrev pub parts : Sizes → (Part → ℕ) → (ℕ → Lane) → (ℕ → Place) → ℕ → ℕ
+parts z f σ π k = sumBelow (z .lanes) (λ j. share z f (gripOf z (σ j) (lastFor π (σ j))) k)
+
+abbrev pub used : Sizes → (ℕ → Lane) → ℕ
+used z σ = sumBelow (z .lanes) (λ j. pathLength (σ j .stage))
+
+-- ---- all of it
+
+pub record Stands (z : Sizes) (v : ℕ → Slot) (w : ℕ → Lock) (σ : ℕ → Lane) (π : ℕ → Place) : Type 0 where
+  pub sound : SoundSlots z v
+  pub range : (j : ℕ) → j < z .lanes → Each (laneIn z (σ j) (lastFor π (σ j)))
+  pub claims : (j : ℕ) → j < z .lanes → Claimed z v (σ j .key) (claimsOf z (σ j) (lastFor π (σ j)))
+  pub locks : (k : ℕ) → k < z .locks + 1 → Counts (w k) (parts z partFlag σ π k) (parts z partCount σ π k) (parts z partWrites σ π k) (parts z partReads σ π k)
+  pub path : PathFacts z π (used z σ)
