@@ -8,7 +8,7 @@ use lib.ListN.{length}
 use Rattle.lists.specs.Below.{allOf}
 use Rattle.places.specs.declared.Sizes.{Sizes}
 use Rattle.places.specs.Table.{sizesOk, maxKey, slotCount}
-use Rattle.slots.specs.Sound.{Finding, finding, openingFault, answer}
+use Rattle.slots.specs.Sound.{Finding, finding, openingFault}
 use Rattle.locks.specs.declared.Mode.the-variants.{Reading, Writing}
 use Rattle.locks.specs.Locks.{grabOf}
 use Rattle.paths.specs.Path.{pathPlaces, emptied}
@@ -21,7 +21,7 @@ use Rattle.lanes.specs.Lane.{laneNumbers, laneAt, withLane}
 use Rattle.lanes.specs.Steps.{Memory, stepLane}
 use Rattle.lanes.specs.Claims.{isIdleOp}
 use Rattle.desk.specs.declared.Opened.{Opened}
-use Rattle.desk.specs.declared.Opened.the-variants.{OpenAccepted, OpenBadSizes, OpenBadLengths, OpenBadSlot}
+use Rattle.desk.specs.declared.Opened.the-variants.{OpenAccepted, OpenBadSizes, OpenBadLengths, OpenMisshapen, OpenAstray, OpenTwice}
 use Rattle.desk.specs.declared.Started.{Started}
 use Rattle.desk.specs.declared.Started.the-variants.{StartAccepted, StartBadSizes, StartBadLengths, StartNotStanding, StartNoLane, StartBusy, StartBadKey}
 use Rattle.desk.specs.declared.Stepped.{Stepped}
@@ -51,7 +51,9 @@ abbrev pub openedNumber : Opened → Finding
 openedNumber OpenAccepted = finding 0 0
 openedNumber OpenBadSizes = finding 1 0
 openedNumber OpenBadLengths = finding 2 0
-openedNumber (OpenBadSlot c) = answer c
+openedNumber (OpenMisshapen i) = finding 3 i
+openedNumber (OpenAstray i) = finding 4 i
+openedNumber (OpenTwice i) = finding 5 i
 
 -- "Order: 1, 2; then at opening the lowest slot index that breaks a rule, and there 3, 4, 5"
 unfoldable pub openingNumber : Sizes → Table → Finding

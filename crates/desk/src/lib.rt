@@ -1,14 +1,15 @@
 // The desk: opening a table, starting an operation on a lane, stepping a lane; what each call answers and refuses.
 // Uses `lists`, `places`, `slots`, `locks`, `paths` and `lanes`.
 use lanes::Answer;
-use slots::Checked;
 
-// What opening answers.
+// What opening answers. The last three name the lowest slot that breaks a rule.
 pub enum Opened {
     OpenAccepted,
     OpenBadSizes,
     OpenBadLengths,
-    OpenBadSlot(Checked),
+    OpenMisshapen(usize),
+    OpenAstray(usize),
+    OpenTwice(usize),
 }
 
 // What a start answers.
