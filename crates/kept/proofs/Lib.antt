@@ -21,3 +21,4 @@ pub mod Opening
 pub mod Starting
 pub mod Stepping
 pub mod Kept
+pub mod Frame
