@@ -27,7 +27,8 @@ use Rattle.lanes.specs.declared.Claims.{Claims}
 use Rattle.lanes.specs.Lane.{laneAt, decodes}
 use Rattle.lanes.specs.Claims.{laneIn, claimsOf}
 use Rattle.desk.specs.Standing.{Table, lastAt, partsIn, lockStands, placeStands, linked, unused, pathUsed, pathStands, rowStands, slotStands, claimTests, laneStands, standing}
-use Rattle.kept.proofs.Facts.{RowClaimed, SlotClaimed, Claimed, PlaceFacts, PathFacts, Stands}
+use Rattle.lanes.proofs.Claimed.{RowClaimed, SlotClaimed, Claimed}
+use Rattle.kept.proofs.Facts.{PlaceFacts, PathFacts, Stands}
 
 -- the facts of the standing check, of a table
 abbrev pub StandsIn : Sizes → Table → Type 0

@@ -37,9 +37,9 @@ use Rattle.locks.specs.Locks.{lockAt, withLock, tryLock, released}
 use Rattle.locks.proofs.Views.{lock-same, lock-other}
 use Rattle.locks.proofs.Grabs.{grabMode, partAfter}
 use Rattle.lanes.specs.Steps.{Memory, Performed, actAt, perform, written, swung}
-use Rattle.kept.proofs.Shift.{Touch, touch, untouched, touchAt}
+use Rattle.lanes.proofs.Shift.{Touch, touch, untouched, touchAt}
 use Rattle.kept.proofs.Words.{Turned, same-word, tried-word, freed-word}
-use Rattle.kept.proofs.Grabbing.{grab-mode}
+use Rattle.lanes.proofs.Grabbing.{grab-mode}
 use Rattle.kept.proofs.Long.{Lengths}
 use Rattle.kept.proofs.Stores.{row-in}
 

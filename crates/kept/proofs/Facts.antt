@@ -2,15 +2,14 @@
 -- Assumes nothing.
 use mathlib.Core.Path.{_≡_}
 use mathlib.Core.Logic.{_⊎_}
-use mathlib.Core.Bool.{true, false, cond}
+use mathlib.Core.Bool.{cond}
 use Prim.Native.Nat.{ℕ, _+_, _-_, _≤_, _<_}
 use lib.Dec.{eqb}
 use Rattle.lists.specs.Below.{sumBelow}
 use Rattle.lists.proofs.Below.{Each}
 use Rattle.places.specs.declared.Sizes.{Sizes}
-use Rattle.places.specs.Table.{maxKey, homeOne, homeTwo, slotIndex}
+use Rattle.places.specs.Table.{maxKey, homeOne, homeTwo}
 use Rattle.slots.specs.declared.Slot.{Slot}
-use Rattle.slots.specs.Slot.{isFull, isEmpty, holds}
 use Rattle.slots.proofs.Facts.{SoundSlots}
 use Rattle.locks.specs.declared.Lock.{Lock}
 use Rattle.locks.specs.declared.Part.{Part}
@@ -19,29 +18,9 @@ use Rattle.locks.specs.Locks.{partFlag, partCount, partWrites, partReads}
 use Rattle.paths.specs.declared.Place.{Place}
 use Rattle.paths.specs.Path.{noPlace, otherRow}
 use Rattle.lanes.specs.declared.Lane.{Lane}
-use Rattle.lanes.specs.declared.RowClaim.{RowClaim}
-use Rattle.lanes.specs.declared.SlotClaim.{SlotClaim}
-use Rattle.lanes.specs.declared.SlotClaim.the-variants.{NoClaim, HasKey, HasPair, HasRoom}
-use Rattle.lanes.specs.declared.Claims.{Claims}
+use Rattle.lanes.proofs.Claimed.{Claimed}
 use Rattle.lanes.specs.Steps.{pathLength}
 use Rattle.lanes.specs.Claims.{laneIn, gripOf, share, claimsOf}
-
--- ---- claims
-
-pub record RowClaimed (z : Sizes) (v : ℕ → Slot) (key : ℕ) (c : RowClaim) : Type 0 where
-  pub lacks : (i : ℕ) → i < c .lacking → holds (v (slotIndex z (c .row) i)) key ≡ false
-  pub fulls : (i : ℕ) → i < c .full → isFull (v (slotIndex z (c .row) i)) ≡ true
-
-abbrev pub SlotClaimed : Sizes → (ℕ → Slot) → ℕ → SlotClaim → Type 0
-SlotClaimed z v key NoClaim = Unit {0}
-SlotClaimed z v key (HasKey row column) = holds (v (slotIndex z row column)) key ≡ true
-SlotClaimed z v key (HasPair row column value) = (holds (v (slotIndex z row column)) key ≡ true) × (v (slotIndex z row column) .value ≡ value)
-SlotClaimed z v key (HasRoom row column) = isEmpty (v (slotIndex z row column)) ≡ true
-
-pub record Claimed (z : Sizes) (v : ℕ → Slot) (key : ℕ) (c : Claims) : Type 0 where
-  pub one : RowClaimed z v key (c .one)
-  pub two : RowClaimed z v key (c .two)
-  pub slot : SlotClaimed z v key (c .slot)
 
 -- ---- the path
 

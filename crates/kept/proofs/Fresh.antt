@@ -18,9 +18,9 @@ use Rattle.lanes.specs.Claims.{laneIn, gripAt, gripOf, share, claimsAt, claimsO
 use Rattle.desk.specs.declared.Request.{Request}
 use Rattle.desk.specs.declared.Request.the-variants.{AskRead, AskDelete, AskInsert}
 use Rattle.desk.specs.Desk.{keyOf, begun}
-use Rattle.kept.proofs.Facts.{Claimed}
-use Rattle.kept.proofs.Shift.{Measure, none-at, fresh-at}
-use Rattle.kept.proofs.Own.{no-claims}
+use Rattle.lanes.proofs.Claimed.{Claimed}
+use Rattle.lanes.proofs.Shift.{Measure, none-at, fresh-at}
+use Rattle.lanes.proofs.Own.{no-claims}
 
 -- ---- shares
 

@@ -1,6 +1,7 @@
 -- THE THEOREM "kept": opening an accepted table gives a standing one, and every accepted start and step keeps it so.
 -- Assumes nothing.
 use mathlib.Core.Path.{_≡_, _∙_, refl, sym, subst}
+use mathlib.Core.Logic.{_≢_}
 use mathlib.Core.Bool.{Bool, true, false, cond, not}
 use Prim.Native.Nat.{ℕ, _<_}
 use native.Mathlib.Omega.{arith}
@@ -12,7 +13,7 @@ use Rattle.places.proofs.Limits.{ok-fits}
 use Rattle.lanes.specs.Lane.{laneAt}
 use Rattle.lanes.specs.Steps.{actOf, stepLane}
 use Rattle.lanes.specs.Claims.{isIdleOp}
-use Rattle.lanes.proofs.Numbers.{lane-length}
+use Rattle.lanes.proofs.Numbers.{lane-other, lane-length}
 use Rattle.paths.specs.Path.{lastOf}
 use Rattle.desk.specs.declared.Started.{Started}
 use Rattle.desk.specs.declared.Started.the-variants.{StartAccepted, StartBadSizes, StartBadLengths, StartNotStanding, StartNoLane, StartBusy, StartBadKey}
@@ -76,6 +77,11 @@ module _ (z : Sizes) (t : Table) (j byte : ℕ) (e : stepNumbers (stepAnswer z t
       lengths-ok z (turned z t j byte .table)
       (act-lengths z (actOf z (laneAt (t .lanes) j) (lastOf (t .path) _)) byte (memoryOf t) (lengths-of z t (step-tested .lengths)))
       (lane-length (t .lanes) j _ ∙ lanes-of z t (step-tested .lengths))
+
+-- of the lane records a step changes only its own
+pub lanes-framed : (z : Sizes) (t : Table) (j byte k : ℕ) → k ≢ j → laneAt (turned z t j byte .table .lanes) k ≡ laneAt (t .lanes) k
+unfolding turned
+lanes-framed z t j byte k d = lane-other (t .lanes) j _ k d
 
 -- ---- the three parts
 

@@ -1,15 +1,7 @@
 pub mod Facts
 pub mod Checked
 pub mod Long
-pub mod Ways
-pub mod Ops
-pub mod Shift
-pub mod Guards
 pub mod Others
-pub mod Own
-pub mod Grabbing
-pub mod Single
-pub mod Range
 pub mod Words
 pub mod Path
 pub mod Stores
@@ -21,4 +13,3 @@ pub mod Opening
 pub mod Starting
 pub mod Stepping
 pub mod Kept
-pub mod Frame

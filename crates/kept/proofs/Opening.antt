@@ -30,8 +30,9 @@ use Rattle.lanes.specs.Claims.{laneIn, gripOf, share, claimsOf}
 use Rattle.lanes.proofs.Numbers.{opened-lane, opened-decodes}
 use Rattle.desk.specs.Standing.{Table}
 use Rattle.desk.specs.Desk.{lengthsOk, opened, openingNumber, afterOpening}
-use Rattle.kept.proofs.Facts.{Claimed, PathFacts, lastFor, parts, used}
-use Rattle.kept.proofs.Shift.{Measure, flag-measure, count-measure, writes-measure, reads-measure}
+use Rattle.lanes.proofs.Claimed.{Claimed}
+use Rattle.kept.proofs.Facts.{PathFacts, lastFor, parts, used}
+use Rattle.lanes.proofs.Shift.{Measure, flag-measure, count-measure, writes-measure, reads-measure}
 use Rattle.kept.proofs.Fresh.{idle-share, idle-range, idle-claims}
 use Rattle.kept.proofs.Checked.{Standing}
 

@@ -37,8 +37,9 @@ use Rattle.lanes.specs.declared.Claims.{Claims}
 use Rattle.lanes.specs.declared.Grip.{Grip}
 use Rattle.lanes.specs.Steps.{mainLock}
 use Rattle.lanes.specs.Claims.{outcomeIn, foundIn, stageIn, laneIn, gripOf, share, noClaims, dropClaims, lateClaims, roomClaims, foundClaims, claimsAt, claimsOf}
-use Rattle.kept.proofs.Facts.{RowClaimed, SlotClaimed, Claimed, lastFor, parts}
-use Rattle.kept.proofs.Guards.{partHolds, RowHeld, ClaimHeld, SlotHeld, guarded-one, guarded-two, guarded-slot}
+use Rattle.lanes.proofs.Claimed.{RowClaimed, SlotClaimed, Claimed}
+use Rattle.kept.proofs.Facts.{lastFor, parts}
+use Rattle.lanes.proofs.Guards.{partHolds, RowHeld, ClaimHeld, SlotHeld, guarded-one, guarded-two, guarded-slot}
 
 -- ---- a writer is alone
 

@@ -23,7 +23,7 @@ use Rattle.lanes.specs.declared.Seen.{Seen}
 use Rattle.lanes.specs.declared.Moved.{Moved}
 use Rattle.lanes.specs.Steps.{rowOn, pathLength}
 use Rattle.lanes.specs.Claims.{laneIn, stageIn, share, gripOf, claimsAt, claimsOf, roomClaims}
-use Rattle.kept.proofs.Ways.{Goes, wrote-hit, wrote-room, swings}
+use Rattle.lanes.proofs.Ways.{Goes, wrote-hit, wrote-room, swings}
 use Rattle.places.proofs.Locking.{lock-in}
 use Rattle.slots.specs.Slot.{emptySlot, fullSlot}
 use Rattle.slots.proofs.Facts.{SoundSlots}
@@ -32,10 +32,11 @@ use Rattle.locks.specs.declared.Lock.{Lock}
 use Rattle.locks.specs.Locks.{partWrites}
 use Rattle.paths.proofs.Other.{other-in}
 use Rattle.lanes.specs.Steps.{written}
-use Rattle.kept.proofs.Facts.{Claimed, lastFor, PlaceFacts, Stands}
-use Rattle.kept.proofs.Guards.{store-hit, store-room, swing-from, swing-to}
+use Rattle.lanes.proofs.Claimed.{Claimed}
+use Rattle.kept.proofs.Facts.{lastFor, PlaceFacts, Stands}
+use Rattle.lanes.proofs.Guards.{store-hit, store-room, swing-from, swing-to}
 use Rattle.kept.proofs.Others.{alone}
-use Rattle.kept.proofs.Own.{no-claims}
+use Rattle.lanes.proofs.Own.{no-claims}
 use Rattle.kept.proofs.Stores.{row-in, hit-stored, room-stored, swing-moved, claims-quiet, claims-stored}
 use Rattle.kept.proofs.Does.{moves, skips, Quiet, SlotsDo}
 

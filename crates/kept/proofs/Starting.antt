@@ -39,8 +39,9 @@ use Rattle.desk.specs.declared.Started.the-variants.{StartAccepted, StartBadSiz
 use Rattle.desk.specs.declared.Request.{Request}
 use Rattle.desk.specs.Standing.{Table, standing}
 use Rattle.desk.specs.Desk.{lengthsOk, keyOf, begun, startAnswer, startNumber, started, afterStart}
-use Rattle.kept.proofs.Facts.{Claimed, PathFacts, Stands, lastFor, parts, used}
-use Rattle.kept.proofs.Shift.{Measure, flag-measure, count-measure, writes-measure, reads-measure}
+use Rattle.lanes.proofs.Claimed.{Claimed}
+use Rattle.kept.proofs.Facts.{PathFacts, Stands, lastFor, parts, used}
+use Rattle.lanes.proofs.Shift.{Measure, flag-measure, count-measure, writes-measure, reads-measure}
 use Rattle.kept.proofs.Long.{lanes-of}
 use Rattle.kept.proofs.Fresh.{idle-share, begun-share, begun-range, begun-claims, begun-length}
 use Rattle.kept.proofs.Checked.{Standing, standing-facts}

@@ -23,7 +23,7 @@ use Rattle.lanes.specs.declared.Seen.{Seen}
 use Rattle.lanes.specs.declared.Moved.{Moved}
 use Rattle.lanes.specs.Steps.{mainLock, modeOf, rowOn, swingRows, pathLength}
 use Rattle.lanes.specs.Claims.{laneIn, stageIn, gripOf, claimsOf}
-use Rattle.kept.proofs.Ways.{Goes}
+use Rattle.lanes.proofs.Ways.{Goes}
 use native.Mathlib.Decide.{ℕ-discrete}
 use lib.ListN.{length}
 use Prim.Native.Nat.{_*_}
@@ -42,21 +42,23 @@ use Rattle.lanes.specs.Steps.{Memory, actAt, perform, advanceAt, stepLane}
 use Rattle.lanes.proofs.Numbers.{lane-same, lane-other, decodes-same, decodes-other}
 use Rattle.desk.specs.Standing.{Table}
 use Rattle.desk.specs.Desk.{memoryOf, turned}
-use Rattle.kept.proofs.Facts.{Claimed, lastFor, lastIn, PlaceFacts, used, Stands}
+use Rattle.lanes.proofs.Claimed.{Claimed}
+use Rattle.kept.proofs.Facts.{lastFor, lastIn, PlaceFacts, used, Stands}
 use Rattle.kept.proofs.Checked.{StandsIn, Standing}
-use Rattle.kept.proofs.Ways.{goes}
+use Rattle.lanes.proofs.Ways.{goes}
 use Rattle.kept.proofs.Others.{alone, share-sum}
-use Rattle.kept.proofs.Own.{Looks, own-claims}
-use Rattle.kept.proofs.Grabbing.{waits-fit}
-use Rattle.kept.proofs.Single.{counts-few, path-main}
-use Rattle.kept.proofs.Range.{TryFits, LastIn, range-kept}
+use Rattle.lanes.proofs.Own.{Looks, own-claims}
+use Rattle.lanes.proofs.Grabbing.{waits-fit}
+use Rattle.lanes.proofs.Single.{path-main}
+use Rattle.lanes.proofs.Range.{TryFits, LastIn, range-kept}
 use Rattle.kept.proofs.Long.{Lengths}
-use Rattle.kept.proofs.Shift.{touchAt, Follows}
-use Rattle.kept.proofs.Words.{Alone, locks-kept}
+use Rattle.lanes.proofs.Shift.{touchAt, Follows}
+use Rattle.kept.proofs.Words.{counts-few, Alone, locks-kept}
 use Rattle.kept.proofs.Path.{PathDoes, Nobody, path-kept, lasts-kept}
 use Rattle.kept.proofs.Stores.{row-in}
 use Rattle.kept.proofs.Does.{LocksDo, locks-do, SwingIn, slots-do}
-use Rattle.kept.proofs.Route.{nextLength, length-goes, changesPath, path-do, follows, main-at}
+use Rattle.lanes.proofs.Route.{nextLength, length-goes, changesPath, main-at}
+use Rattle.kept.proofs.Route.{path-do, follows}
 use Rattle.kept.proofs.Slots.{SlotsKept, slots-kept}
 
 -- a slot of good shape is empty or full
@@ -296,7 +298,7 @@ module _ (z : Sizes) (f : Fits z) (t : Table) (len : Lengths z (memoryOf t)) (lo
   alone-here = record { within = hi; here = here; there = λ j hj d. there j d; lasts = lasts }
 
   few : (k : ℕ) → k < z .locks + 1 → lockAt (t .locks) k .count ≤ z .lanes
-  few k h = omega (arith, facts .locks k h .countIs, counts-few z f σ π (facts .range) k)
+  few k h = omega (arith, facts .locks k h .countIs, counts-few z σ π (facts .range) k)
 
   range′ : Each (laneIn z (m .lane) last′)
   range′ = range-kept z f l last last′ seen s m (range .0) (range .1 .0) (range .1 .1) (try-fits z f l last byte (memoryOf t) few s (range .1 .1)) (last-in z f l last byte (memoryOf t) s (range .1 .1) last-facts) follow way

@@ -35,8 +35,9 @@ use Rattle.slots.proofs.Bindings.{Stored, Moved as PairMoved, emptied, overwrit
 use Rattle.slots.proofs.Rows.{Lacks, stands-nowhere}
 use Rattle.paths.proofs.Other.{other-in, other-home}
 use Rattle.lanes.specs.Steps.{written}
-use Rattle.kept.proofs.Facts.{Claimed, PlaceFacts}
-use Rattle.kept.proofs.Guards.{partHolds}
+use Rattle.lanes.proofs.Claimed.{Claimed}
+use Rattle.kept.proofs.Facts.{PlaceFacts}
+use Rattle.lanes.proofs.Guards.{partHolds}
 use Rattle.kept.proofs.Others.{SlotAgrees, claimed-same, others-claims, sets-off}
 
 -- ---- the rows of a key

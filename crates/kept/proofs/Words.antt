@@ -19,16 +19,17 @@ use Rattle.lanes.specs.declared.Seen.{Seen}
 use Rattle.lanes.specs.declared.Moved.{Moved}
 use Rattle.lanes.specs.declared.Grip.{Grip}
 use Rattle.lanes.specs.Steps.{mainLock}
-use Rattle.lanes.specs.Claims.{stageIn, onLock, share, gripOf}
-use Rattle.kept.proofs.Ways.{Goes}
+use Rattle.lanes.specs.Claims.{laneIn, stageIn, onLock, share, gripOf}
+use Rattle.lanes.proofs.Ways.{Goes}
 use Rattle.lists.specs.Below.{sumBelow}
-use Rattle.lists.proofs.Sums.{sum-change, sum-at}
+use Rattle.lists.proofs.Sums.{sum-few, sum-change, sum-at}
 use native.Mathlib.Decide.{ℕ-discrete}
 use Rattle.locks.specs.declared.Lock.{Lock}
 use Rattle.locks.specs.Locks.{tryLock, released, grabFlag, grabCount, modeFlag, modeCount, partFlag, partCount, partWrites, partReads}
 use Rattle.locks.proofs.Grabs.{Counts, grabMode, partAfter, try-counts, release-counts}
 use Rattle.kept.proofs.Facts.{lastFor, parts}
-use Rattle.kept.proofs.Shift.{Measure, flag-measure, count-measure, writes-measure, reads-measure, Touch, touchAt, Follows, shift, touched}
+use Rattle.lanes.proofs.Single.{count-one}
+use Rattle.lanes.proofs.Shift.{Measure, flag-measure, count-measure, writes-measure, reads-measure, Touch, touchAt, Follows, shift, touched}
 
 -- a part in the flag that does not hold the lock yet, and the same of the count
 abbrev early : Part → ℕ
@@ -92,6 +93,11 @@ free-numbers : (m : Mode) (w : Lock) (F C W R E A F′ C′ W′ R′ : ℕ) →
 free-numbers m w F C W R E A F′ C′ W′ R′ ef ec h tf tc tw tr =
     release-counts m w F′ C′ W′ R′ (omega arith) (omega arith)
     (record { flagIs = h .flagIs ∙ sym tf; countIs = h .countIs ∙ sym tc; single = omega (arith, h .single); apart = rw (tw, tr) (h .apart) })
+
+-- a lock's count is at most the number of lanes
+pub counts-few : (z : Sizes) (σ : ℕ → Lane) (π : ℕ → Place) → ((j : ℕ) → j < z .lanes → Each (laneIn z (σ j) (lastFor π (σ j)))) → (k : ℕ) → parts z partCount σ π k ≤ z .lanes
+counts-few z σ π h k =
+    sum-few (z .lanes) (λ j. share z partCount (gripOf z (σ j) (lastFor π (σ j))) k) (λ j l. count-one z (σ j) (lastFor π (σ j)) (h j l) k)
 
 -- the two measures that make up the flag's and the count's
 early-measure : Measure early

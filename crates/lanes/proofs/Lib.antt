@@ -1,1 +1,12 @@
 pub mod Numbers
+pub mod Claimed
+pub mod Ops
+pub mod Ways
+pub mod Frame
+pub mod Shift
+pub mod Route
+pub mod Grabbing
+pub mod Range
+pub mod Guards
+pub mod Single
+pub mod Own

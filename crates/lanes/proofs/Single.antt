@@ -4,14 +4,13 @@
 use mathlib.Core.Path.{_≡_, refl}
 use mathlib.Core.Logic.{_≢_}
 use mathlib.Core.Bool.{Bool, true, false, cond, not}
-use Prim.Native.Nat.{ℕ, zero, suc, _+_, _≤_, _<_}
+use Prim.Native.Nat.{ℕ, _+_, _≤_, _<_}
 use native.Mathlib.Omega.{arith}
 use lib.Dec.{eqb}
 use borrow.Author.Tests.{eqb-true, eq-eqb, leb-true, not-true}
-use Rattle.lists.specs.Below.{sumBelow}
 use Rattle.lists.proofs.Below.{Each}
 use Rattle.places.specs.declared.Sizes.{Sizes}
-use Rattle.places.specs.Table.{Fits, homeOne, homeTwo, lockOf}
+use Rattle.places.specs.Table.{homeOne, homeTwo, lockOf}
 use Rattle.places.proofs.Locking.{order-locks}
 use Rattle.locks.specs.declared.Mode.{Mode}
 use Rattle.locks.specs.declared.Mode.the-variants.{Reading, Writing}
@@ -21,25 +20,24 @@ use Rattle.locks.specs.declared.Part.{Part}
 use Rattle.locks.specs.declared.Part.the-variants.{NoPart, Tries, Holds}
 use Rattle.locks.specs.Locks.{modeCount, grabCount, partCount, partWrites}
 use Rattle.paths.specs.declared.Place.{Place}
 use Rattle.lanes.specs.declared.Op.{Op}
 use Rattle.lanes.specs.declared.Side.{Side}
 use Rattle.lanes.specs.declared.Side.the-variants.{First, Second}
 use Rattle.lanes.specs.declared.Trail.{Trail}
 use Rattle.lanes.specs.declared.Walk.{Walk}
 use Rattle.lanes.specs.declared.Outcome.{Outcome}
 use Rattle.lanes.specs.declared.Outcome.the-variants.{Hit, Wrote, Filled, Miss, Picked, Stuck}
 use Rattle.lanes.specs.declared.Found.{Found}
 use Rattle.lanes.specs.declared.Found.the-variants.{Room, Full}
 use Rattle.lanes.specs.declared.Ending.{Ending}
 use Rattle.lanes.specs.declared.Ending.the-variants.{Yes, Searched, Walked}
 use Rattle.lanes.specs.declared.Stage.{Stage}
 use Rattle.lanes.specs.declared.Stage.the-variants.{Idle, TakeMain, TakeFirst, SeekFirst, TakeSecond, SeekSecond, RoomFirst, RoomSecond, WriteHit, WriteRoom, Pick, DropFirst, DropSecond, DropMain, TakeNext, LookNext, PickNext, DropNext, TakeLow, TakeHigh, Swing, DropLow, DropHigh}
 use Rattle.lanes.specs.declared.Lane.{Lane}
 use Rattle.lanes.specs.declared.Grip.{Grip}
 use Rattle.lanes.specs.Steps.{mainLock, modeOf, rowOn, sharedRows, swingRows, dropsTwo, outcomePlaces, endingPlaces, pathLength}
 use Rattle.lanes.specs.Claims.{isInsert, isFirstPass, outcomeIn, endingIn, trailIn, foundIn, walkIn, stageIn, laneIn, mainPart, secondPart, passGrip, bothRows, hitRows, gripAt, gripOf, onLock, share}
-use Rattle.kept.proofs.Facts.{lastFor, parts}
-use Rattle.kept.proofs.Ops.{first-inserts, main-held-by}
+use Rattle.lanes.proofs.Ops.{first-inserts, main-held-by}
 
 -- ---- one part in the count
 
@@ -153,18 +151,8 @@ module _ (z : Sizes) (k : ℕ) where
     count-at last (DropLow w) h = few (gripAt z l last (DropLow w)) (omega (arith, second-none (swingRows z last w .shared)))
     count-at last (DropHigh w) h = few (gripAt z l last (DropHigh w)) (omega arith)
 
-pub count-one : (z : Sizes) → Fits z → (l : Lane) (last : Place) → Each (laneIn z l last) → (k : ℕ) → share z partCount (gripOf z l last) k ≤ 1
-count-one z f l last h k = count-at z k l last (l .stage) (h .1 .1)
-
--- a sum of terms that are at most 1
-pub sum-few : (n : ℕ) (f : ℕ → ℕ) → ((j : ℕ) → j < n → f j ≤ 1) → sumBelow n f ≤ n
-unfolding sumBelow
-sum-few zero f h = omega arith
-sum-few (suc n) f h = omega (arith, sum-few n f (λ j l. h j (omega arith)), h n (omega arith))
-
-pub counts-few : (z : Sizes) → Fits z → (σ : ℕ → Lane) (π : ℕ → Place) → ((j : ℕ) → j < z .lanes → Each (laneIn z (σ j) (lastFor π (σ j)))) → (k : ℕ) → parts z partCount σ π k ≤ z .lanes
-counts-few z f σ π h k =
-    sum-few (z .lanes) (λ j. share z partCount (gripOf z (σ j) (lastFor π (σ j))) k) (λ j l. count-one z f (σ j) (lastFor π (σ j)) (h j l) k)
+pub count-one : (z : Sizes) (l : Lane) (last : Place) → Each (laneIn z l last) → (k : ℕ) → share z partCount (gripOf z l last) k ≤ 1
+count-one z l last h k = count-at z k l last (l .stage) (h .1 .1)
 
 -- ---- places on the path
 

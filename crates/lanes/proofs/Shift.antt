@@ -18,25 +18,25 @@ use Rattle.locks.specs.declared.Part.the-variants.{NoPart, Tries, Holds}
 use Rattle.locks.specs.Locks.{grabOf, partFlag, partCount, partWrites, partReads}
 use Rattle.paths.specs.declared.Place.{Place}
 use Rattle.paths.specs.Path.{otherRow}
 use Rattle.lanes.specs.declared.Op.the-variants.{NoOp}
 use Rattle.lanes.specs.declared.Side.{Side}
 use Rattle.lanes.specs.declared.Side.the-variants.{First, Second}
 use Rattle.lanes.specs.declared.Trail.{Trail}
 use Rattle.lanes.specs.declared.Walk.{Walk}
 use Rattle.lanes.specs.declared.Outcome.{Outcome}
 use Rattle.lanes.specs.declared.Outcome.the-variants.{Wrote}
 use Rattle.lanes.specs.declared.Ending.{Ending}
 use Rattle.lanes.specs.declared.Ending.the-variants.{Yes, Searched, Walked}
 use Rattle.lanes.specs.declared.Stage.{Stage}
 use Rattle.lanes.specs.declared.Stage.the-variants.{Idle, TakeMain, TakeFirst, SeekFirst, TakeSecond, SeekSecond, RoomFirst, RoomSecond, WriteHit, WriteRoom, Pick, DropFirst, DropSecond, DropMain, TakeNext, LookNext, PickNext, DropNext, TakeLow, TakeHigh, Swing, DropLow, DropHigh}
 use Rattle.lanes.specs.declared.Lane.{Lane}
 use Rattle.lanes.specs.declared.Seen.{Seen}
 use Rattle.lanes.specs.declared.Moved.{Moved}
 use Rattle.lanes.specs.Steps.{mainLock, modeOf, rowOn, sharedRows, swingRows, soughtRow, goesTo}
 use Rattle.lanes.specs.Claims.{stageIn, outcomeIn, endingIn, mainPart, secondPart, onLock, share, gripAt, gripOf}
-use Rattle.kept.proofs.Ways.{Leaves, leaves-hit, leaves-ended, leaves-wrote, leaves-filled, leaves-miss, leaves-picked, leaves-stuck, Swings, swings-again, swings-on, Goes, rests, main-waits, main-held, first-waits, first-held, first-read, first-hit, first-more, first-shared, first-apart, second-waits, second-held, second-read, second-hit, second-more, second-miss, second-room, room-first, room-first-more, room-first-full, room-second, room-second-more, room-pick, room-stuck, wrote-hit, wrote-room, picked-first, drops-on, drops-one, drops-two, drops-main, next-waits, next-held, next-free, next-more, next-full, next-picked, next-walk, next-over, next-again, low-waits, low-shared, low-apart, high-waits, high-held, swings, drops-low, drops-both, drops-high}
+use Rattle.lanes.proofs.Ways.{Leaves, leaves-hit, leaves-ended, leaves-wrote, leaves-filled, leaves-miss, leaves-picked, leaves-stuck, Swings, swings-again, swings-on, Goes, rests, main-waits, main-held, first-waits, first-held, first-read, first-hit, first-more, first-shared, first-apart, second-waits, second-held, second-read, second-hit, second-more, second-miss, second-room, room-first, room-first-more, room-first-full, room-second, room-second-more, room-pick, room-stuck, wrote-hit, wrote-room, picked-first, drops-on, drops-one, drops-two, drops-main, next-waits, next-held, next-free, next-more, next-full, next-picked, next-walk, next-over, next-again, low-waits, low-shared, low-apart, high-waits, high-held, swings, drops-low, drops-both, drops-high}
 use Rattle.locks.proofs.Grabs.{partAfter}
-use Rattle.kept.proofs.Ops.{first-inserts, second-inserts, seeks-not-insert, read-not-insert, main-held-by, main-free-of}
+use Rattle.lanes.proofs.Ops.{first-inserts, second-inserts, seeks-not-insert, read-not-insert, main-held-by, main-free-of}
 
 -- a measure of parts that fresh parts count for nothing in
 pub record Measure (f : Part → ℕ) : Type 0 where

@@ -12,24 +12,24 @@ use Rattle.slots.specs.declared.Slot.{Slot}
 use Rattle.slots.specs.Slot.{isEmpty, isFull, holds}
 use Rattle.paths.specs.declared.Place.{Place}
 use Rattle.paths.specs.Path.{otherRow}
 use Rattle.lanes.specs.declared.Side.{Side}
 use Rattle.lanes.specs.declared.Side.the-variants.{First, Second}
 use Rattle.lanes.specs.declared.Outcome.{Outcome}
 use Rattle.lanes.specs.declared.Outcome.the-variants.{Hit, Wrote, Filled, Miss, Picked, Stuck}
 use Rattle.lanes.specs.declared.Stage.{Stage}
 use Rattle.lanes.specs.declared.Stage.the-variants.{Idle, TakeMain, TakeFirst, SeekFirst, TakeSecond, SeekSecond, RoomFirst, RoomSecond, WriteHit, WriteRoom, Pick, DropFirst, DropSecond, DropMain, TakeNext, LookNext, PickNext, DropNext, TakeLow, TakeHigh, Swing, DropLow, DropHigh}
 use Rattle.lanes.specs.declared.Lane.{Lane}
 use Rattle.lanes.specs.declared.Seen.{Seen}
 use Rattle.lanes.specs.declared.Moved.{Moved}
 use Rattle.lanes.specs.declared.SlotClaim.{SlotClaim}
 use Rattle.lanes.specs.declared.SlotClaim.the-variants.{NoClaim, HasKey, HasPair, HasRoom}
 use Rattle.lanes.specs.Steps.{rowOn, goesTo}
 use Rattle.lanes.specs.Claims.{claimsAt, claimsOf}
-use Rattle.kept.proofs.Ways.{Leaves, leaves-hit, leaves-ended, leaves-wrote, leaves-filled, leaves-miss, leaves-picked, leaves-stuck, Swings, swings-again, swings-on, Goes, rests, main-waits, main-held, first-waits, first-held, first-read, first-hit, first-more, first-shared, first-apart, second-waits, second-held, second-read, second-hit, second-more, second-miss, second-room, room-first, room-first-more, room-first-full, room-second, room-second-more, room-pick, room-stuck, wrote-hit, wrote-room, picked-first, drops-on, drops-one, drops-two, drops-main, next-waits, next-held, next-free, next-more, next-full, next-picked, next-walk, next-over, next-again, low-waits, low-shared, low-apart, high-waits, high-held, swings, drops-low, drops-both, drops-high}
+use Rattle.lanes.proofs.Ways.{Leaves, leaves-hit, leaves-ended, leaves-wrote, leaves-filled, leaves-miss, leaves-picked, leaves-stuck, Swings, swings-again, swings-on, Goes, rests, main-waits, main-held, first-waits, first-held, first-read, first-hit, first-more, first-shared, first-apart, second-waits, second-held, second-read, second-hit, second-more, second-miss, second-room, room-first, room-first-more, room-first-full, room-second, room-second-more, room-pick, room-stuck, wrote-hit, wrote-room, picked-first, drops-on, drops-one, drops-two, drops-main, next-waits, next-held, next-free, next-more, next-full, next-picked, next-walk, next-over, next-again, low-waits, low-shared, low-apart, high-waits, high-held, swings, drops-low, drops-both, drops-high}
 use borrow.Author.Count.{below-more}
 use Rattle.lanes.specs.Claims.{noClaims, passClaims, searchClaims, rowClaim, dropClaims, lateClaims}
-use Rattle.kept.proofs.Facts.{RowClaimed, SlotClaimed, Claimed}
-use Rattle.kept.proofs.Shift.{Follows}
+use Rattle.lanes.proofs.Claimed.{RowClaimed, SlotClaimed, Claimed}
+use Rattle.lanes.proofs.Shift.{Follows}
 
 -- what a look saw is what stands in the slots
 abbrev pub Looks : Sizes → (ℕ → Slot) → Lane → Place → Seen → Stage → Type 0

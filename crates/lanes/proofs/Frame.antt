@@ -1,15 +1,14 @@
 -- What an accepted step may change: by its act, one lock, at most the two slots of a swing, one place of the path or all of it; and
 -- of the lane records only its own. It goes on, or it ends and leaves an idle lane.
 -- Assumes nothing.
-use mathlib.Core.Path.{_≡_, refl, sym, _∙_}
+use mathlib.Core.Path.{_≡_, refl, ap, sym, _∙_}
 use mathlib.Core.Logic.{_⊎_, inl, inr, _≢_}
 use mathlib.Core.List.{List}
-use mathlib.Core.Bool.{Bool, true, false, cond, _&&_, false≢true}
+use mathlib.Core.Bool.{Bool, true, false, cond, _&&_}
 use Prim.Native.Nat.{ℕ, _-_}
 use native.Mathlib.Omega.{arith}
 use Rattle.places.specs.declared.Sizes.{Sizes}
 use Rattle.places.specs.Table.{slotIndex}
-use Rattle.slots.specs.declared.Slot.{Slot}
 use Rattle.slots.specs.Slot.{slotAt, withSlot, isEmpty, holds, emptySlot}
 use Rattle.slots.proofs.Views.{slot-other}
 use Rattle.locks.specs.Locks.{lockAt, tryLock, released}
@@ -17,29 +16,24 @@ use Rattle.locks.proofs.Views.{lock-other}
 use Rattle.paths.specs.declared.Place.{Place}
 use Rattle.paths.specs.Path.{placeAt, noPlace}
 use Rattle.paths.proofs.Views.{place-other}
 use Rattle.lanes.specs.declared.Outcome.{Outcome}
 use Rattle.lanes.specs.declared.Stage.{Stage}
-use Rattle.lanes.specs.declared.Stage.the-variants.{Idle}
 use Rattle.lanes.specs.declared.Lane.{Lane}
 use Rattle.lanes.specs.declared.Seen.{Seen}
 use Rattle.lanes.specs.declared.Answer.{Answer}
 use Rattle.lanes.specs.declared.Answer.the-variants.{GoesOn, ReadNone, ReadValue, Deleted, InsertYes, InsertSearched, InsertWalked}
 use Rattle.lanes.specs.declared.Moved.{Moved}
 use Rattle.lanes.specs.declared.Act.{Act}
 use Rattle.lanes.specs.declared.Act.the-variants.{Rest, Try, Release, Look, Store, PickOne, PickFrom, Move}
-use Rattle.lanes.specs.declared.Tail.{Tail}
 use Rattle.lanes.specs.declared.Tail.the-variants.{Keep, TakeOff, Clear}
 use Rattle.lanes.specs.declared.Ending.{Ending}
 use Rattle.lanes.specs.declared.Ending.the-variants.{Yes, Searched, Walked}
 use Rattle.lanes.specs.declared.Op.{Op}
 use Rattle.lanes.specs.declared.Op.the-variants.{NoOp, Read, Delete, Insert, Again}
-use Rattle.lanes.specs.Lane.{laneAt, withLane, idleLane}
-use Rattle.lanes.specs.Steps.{Memory, perform, swung, afterMiss, insertEnd, stepLane}
+use Rattle.lanes.specs.Lane.{idleLane}
+use Rattle.lanes.specs.Steps.{Memory, perform, swung, afterMiss, insertEnd}
 use Rattle.lanes.specs.Claims.{isIdleOp}
-use Rattle.lanes.proofs.Numbers.{lane-other}
-use Rattle.desk.specs.Standing.{Table}
-use Rattle.desk.specs.Desk.{StepNumbers, answerNumbers, turned}
-use Rattle.kept.proofs.Ways.{Leaves, leaves-hit, leaves-ended, leaves-wrote, leaves-filled, leaves-miss, leaves-picked, leaves-stuck, Swings, swings-again, swings-on, Goes, rests, main-waits, main-held, first-waits, first-held, first-read, first-hit, first-more, first-shared, first-apart, second-waits, second-held, second-read, second-hit, second-more, second-miss, second-room, room-first, room-first-more, room-first-full, room-second, room-second-more, room-pick, room-stuck, wrote-hit, wrote-room, picked-first, drops-on, drops-one, drops-two, drops-main, next-waits, next-held, next-free, next-more, next-full, next-picked, next-walk, next-over, next-again, low-waits, low-shared, low-apart, high-waits, high-held, swings, drops-low, drops-both, drops-high}
+use Rattle.lanes.proofs.Ways.{Leaves, leaves-hit, leaves-ended, leaves-wrote, leaves-filled, leaves-miss, leaves-picked, leaves-stuck, Swings, swings-again, swings-on, Goes, rests, main-waits, main-held, first-waits, first-held, first-read, first-hit, first-more, first-shared, first-apart, second-waits, second-held, second-read, second-hit, second-more, second-miss, second-room, room-first, room-first-more, room-first-full, room-second, room-second-more, room-pick, room-stuck, wrote-hit, wrote-room, picked-first, drops-on, drops-one, drops-two, drops-main, next-waits, next-held, next-free, next-more, next-full, next-picked, next-walk, next-over, next-again, low-waits, low-shared, low-apart, high-waits, high-held, swings, drops-low, drops-both, drops-high}
 
 module _ (z : Sizes) (byte : ℕ) (m : Memory) where
   -- locks: only the one that the act names
@@ -126,32 +120,40 @@ module _ (z : Sizes) (byte : ℕ) (m : Memory) where
   path-framed (PickFrom row i) k d = place-other _ _ _ k d
   path-framed (Move from row column) k d = refl
 
--- lane records: only its own
-pub lanes-framed : (z : Sizes) (t : Table) (j byte k : ℕ) → k ≢ j → laneAt (turned z t j byte .table .lanes) k ≡ laneAt (t .lanes) k
-unfolding turned
-lanes-framed z t j byte k d = lane-other (t .lanes) j _ k d
-
 -- ---- it goes on, or it ends
 
 abbrev pub Answers : Lane → Moved → Type 0
-Answers l m = ((m .answer ≡ GoesOn) × (isIdleOp (m .lane .op) ≡ isIdleOp (l .op))) ⊎ ((answerNumbers (m .answer) .end ≢ 0) × (m .lane ≡ idleLane))
+Answers l m = ((m .answer ≡ GoesOn) × (isIdleOp (m .lane .op) ≡ isIdleOp (l .op))) ⊎ ((m .answer ≢ GoesOn) × (m .lane ≡ idleLane))
+
+-- an end is no going on
+abbrev code : Answer → ℕ
+code GoesOn = 0
+code ReadNone = 1
+code (ReadValue value) = 1
+code Deleted = 1
+code InsertYes = 1
+code InsertSearched = 1
+code InsertWalked = 1
+
+apart : {a : Answer} → code a ≡ 1 → a ≡ GoesOn → ⊥
+apart c e = omega (arith, ap code e)
 
 module _ (l : Lane) where
-  miss-ends : (op : Op) → answerNumbers (afterMiss op) .end ≢ 0
-  miss-ends NoOp e = omega arith
-  miss-ends Read e = omega arith
-  miss-ends Delete e = omega arith
-  miss-ends Insert e = omega arith
-  miss-ends Again e = omega arith
+  miss-ends : (op : Op) → afterMiss op ≢ GoesOn
+  miss-ends NoOp e = apart refl e
+  miss-ends Read e = apart refl e
+  miss-ends Delete e = apart refl e
+  miss-ends Insert e = apart refl e
+  miss-ends Again e = apart refl e
 
-  main-ends : (e : Ending) → answerNumbers (insertEnd e) .end ≢ 0
-  main-ends Yes e = omega arith
-  main-ends (Searched n) e = omega arith
-  main-ends Walked e = omega arith
+  main-ends : (e : Ending) → insertEnd e ≢ GoesOn
+  main-ends Yes e = apart refl e
+  main-ends (Searched n) e = apart refl e
+  main-ends Walked e = apart refl e
 
   leaves-answer : (o : Outcome) (m : Moved) → Leaves l o m → Answers l m
-  leaves-answer o m leaves-hit = inr (λ q. omega arith, refl)
-  leaves-answer o m (leaves-ended e) = inr (λ q. omega arith, refl)
+  leaves-answer o m leaves-hit = inr (λ q. apart refl q, refl)
+  leaves-answer o m (leaves-ended e) = inr (λ q. apart refl q, refl)
   leaves-answer o m (leaves-wrote e) = inl (refl, refl)
   leaves-answer o m leaves-filled = inl (refl, refl)
   leaves-answer o m leaves-miss = inr (miss-ends (l .op), refl)
