@@ -35,7 +35,7 @@ use Rattle.lanes.specs.declared.Tail.the-variants.{Keep, TakeOff}
 use Rattle.lanes.proofs.Claimed.{Claimed}
 use Rattle.kept.proofs.Facts.{lastIn, PlaceFacts}
 use Rattle.kept.proofs.Long.{Lengths}
-use Rattle.lanes.proofs.Shift.{Follows}
+use Rattle.lanes.proofs.Follows.{Follows}
 use Rattle.lanes.proofs.Route.{nextLength, changesPath}
 use Rattle.kept.proofs.Path.{PathDoes, stays, grows, shrinks, clears}
 use Rattle.kept.proofs.Stores.{at-homes}

@@ -52,7 +52,8 @@ use Rattle.lanes.proofs.Grabbing.{waits-fit}
 use Rattle.lanes.proofs.Single.{path-main}
 use Rattle.lanes.proofs.Range.{TryFits, LastIn, range-kept}
 use Rattle.kept.proofs.Long.{Lengths}
-use Rattle.lanes.proofs.Shift.{touchAt, Follows}
+use Rattle.lanes.proofs.Follows.{Follows}
+use Rattle.lanes.proofs.Shift.{touchAt}
 use Rattle.kept.proofs.Words.{counts-few, Alone, locks-kept}
 use Rattle.kept.proofs.Path.{PathDoes, Nobody, path-kept, lasts-kept}
 use Rattle.kept.proofs.Stores.{row-in}

@@ -29,7 +29,8 @@ use Rattle.locks.specs.Locks.{tryLock, released, grabFlag, grabCount, modeFlag,
 use Rattle.locks.proofs.Grabs.{Counts, grabMode, partAfter, try-counts, release-counts}
 use Rattle.kept.proofs.Facts.{lastFor, parts}
 use Rattle.lanes.proofs.Single.{count-one}
-use Rattle.lanes.proofs.Shift.{Measure, flag-measure, count-measure, writes-measure, reads-measure, Touch, touchAt, Follows, shift, touched}
+use Rattle.lanes.proofs.Follows.{Follows}
+use Rattle.lanes.proofs.Shift.{Measure, flag-measure, count-measure, writes-measure, reads-measure, Touch, touchAt, shift, touched}
 
 -- a part in the flag that does not hold the lock yet, and the same of the count
 abbrev early : Part → ℕ

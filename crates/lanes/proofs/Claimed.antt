@@ -26,4 +26,3 @@ pub record Claimed (z : Sizes) (v : ℕ → Slot) (key : ℕ) (c : Claims) : Typ
   pub one : RowClaimed z v key (c .one)
   pub two : RowClaimed z v key (c .two)
   pub slot : SlotClaimed z v key (c .slot)
-

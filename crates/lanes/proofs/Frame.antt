@@ -77,8 +77,10 @@ module _ (z : Sizes) (byte : ℕ) (m : Memory) where
     where
       i : ℕ
       i = slotIndex z (from .row) (from .column)
+
       j : ℕ
       j = slotIndex z row column
+
       go : (t : Bool) → slotAt (cond t (withSlot (withSlot xs i emptySlot) j (slotAt xs i)) xs) k ≡ slotAt xs k
       go true = slot-other (withSlot xs i emptySlot) j (slotAt xs i) k b ∙ slot-other xs i emptySlot k a
       go false = refl
@@ -213,5 +215,5 @@ module _ (z : Sizes) (l : Lane) (last : Place) (seen : Seen) where
   answers b s m (high-held e) = inl (refl, refl)
   answers b s m swings = inl (refl, refl)
   answers b s m (drops-low e) = inl (refl, refl)
-  answers b s m (drops-both {w = u} {m = n} e p) = swings-answer (u .places - 1) n b p
-  answers b s m (drops-high {w = u} {m = n} p) = swings-answer (u .places - 1) n b p
+  answers b s m (drops-both {w = u} {m = n} e p) = swings-answer _ n b p
+  answers b s m (drops-high {w = u} {m = n} p) = swings-answer _ n b p

@@ -29,7 +29,7 @@ use Rattle.lanes.proofs.Ways.{Leaves, leaves-hit, leaves-ended, leaves-
 use borrow.Author.Count.{below-more}
 use Rattle.lanes.specs.Claims.{noClaims, passClaims, searchClaims, rowClaim, dropClaims, lateClaims}
 use Rattle.lanes.proofs.Claimed.{RowClaimed, SlotClaimed, Claimed}
-use Rattle.lanes.proofs.Shift.{Follows}
+use Rattle.lanes.proofs.Follows.{Follows}
 
 -- what a look saw is what stands in the slots
 abbrev pub Looks : Sizes → (ℕ → Slot) → Lane → Place → Seen → Stage → Type 0
@@ -165,5 +165,5 @@ module _ (z : Sizes) (v : ℕ → Slot) (l : Lane) (last last′ : Place) (seen 
   own-claims solid s m k w h (high-held e) = no-claims z v K
   own-claims solid s m k w h swings = no-claims z v K
   own-claims solid s m k w h (drops-low e) = no-claims z v K
-  own-claims solid s m k w h (drops-both {w = u} {m = n} e p) = swings-none (u .places - 1) n p
-  own-claims solid s m k w h (drops-high {w = u} {m = n} p) = swings-none (u .places - 1) n p
+  own-claims solid s m k w h (drops-both {w = u} {m = n} e p) = swings-none _ n p
+  own-claims solid s m k w h (drops-high {w = u} {m = n} p) = swings-none _ n p

@@ -28,7 +28,7 @@ use Rattle.lanes.specs.Lane.{idleLane}
 use Rattle.lanes.specs.Steps.{modeOf, swingRows}
 use Rattle.lanes.specs.Claims.{isInsert, isFirstPass, grabIn, laneIn, stageIn, outcomeIn, walkIn}
 use Rattle.lanes.proofs.Ways.{Leaves, leaves-hit, leaves-ended, leaves-wrote, leaves-filled, leaves-miss, leaves-picked, leaves-stuck, Swings, swings-again, swings-on, Goes, rests, main-waits, main-held, first-waits, first-held, first-read, first-hit, first-more, first-shared, first-apart, second-waits, second-held, second-read, second-hit, second-more, second-miss, second-room, room-first, room-first-more, room-first-full, room-second, room-second-more, room-pick, room-stuck, wrote-hit, wrote-room, picked-first, drops-on, drops-one, drops-two, drops-main, next-waits, next-held, next-free, next-more, next-full, next-picked, next-walk, next-over, next-again, low-waits, low-shared, low-apart, high-waits, high-held, swings, drops-low, drops-both, drops-high}
-use Rattle.lanes.proofs.Shift.{Follows}
+use Rattle.lanes.proofs.Follows.{Follows}
 use Rattle.lanes.proofs.Ops.{first-inserts, inserts-busy, busy-writes, busy-seeks, insert-second}
 
 -- a grab that a try leaves fits the stage that it waits at

@@ -1,7 +1,6 @@
 -- What a step does to its lane's part in the locks: one part in one lock changes, and fresh grabs count for nothing.
 -- Assumes nothing.
 use mathlib.Core.Path.{_≡_, refl, ap, sym, _∙_}
-use mathlib.Core.Logic.{_≢_}
 use mathlib.Core.Bool.{Bool, true, false, cond, not}
 use Prim.Native.Nat.{ℕ, _+_, _-_, _≤_}
 use native.Mathlib.Omega.{arith}
@@ -36,6 +35,7 @@ use Rattle.lanes.specs.Steps.{mainLock, modeOf, rowOn, sharedRows, swing
 use Rattle.lanes.specs.Claims.{stageIn, outcomeIn, endingIn, mainPart, secondPart, onLock, share, gripAt, gripOf}
 use Rattle.lanes.proofs.Ways.{Leaves, leaves-hit, leaves-ended, leaves-wrote, leaves-filled, leaves-miss, leaves-picked, leaves-stuck, Swings, swings-again, swings-on, Goes, rests, main-waits, main-held, first-waits, first-held, first-read, first-hit, first-more, first-shared, first-apart, second-waits, second-held, second-read, second-hit, second-more, second-miss, second-room, room-first, room-first-more, room-first-full, room-second, room-second-more, room-pick, room-stuck, wrote-hit, wrote-room, picked-first, drops-on, drops-one, drops-two, drops-main, next-waits, next-held, next-free, next-more, next-full, next-picked, next-walk, next-over, next-again, low-waits, low-shared, low-apart, high-waits, high-held, swings, drops-low, drops-both, drops-high}
 use Rattle.locks.proofs.Grabs.{partAfter}
+use Rattle.lanes.proofs.Follows.{Follows}
 use Rattle.lanes.proofs.Ops.{first-inserts, second-inserts, seeks-not-insert, read-not-insert, main-held-by, main-free-of}
 
 -- a measure of parts that fresh parts count for nothing in
@@ -92,32 +92,6 @@ touchAt z l last seen (TakeHigh g w) = touch (lockOf z (swingRows z last w .seco
 touchAt z l last seen (Swing w) = untouched
 touchAt z l last seen (DropLow w) = touch (lockOf z (swingRows z last w .first)) (Holds Writing) NoPart
 touchAt z l last seen (DropHigh w) = touch (lockOf z (swingRows z last w .second)) (Holds Writing) NoPart
-
--- how the last place goes on with a step from this stage
-abbrev pub Follows : Sizes → Stage → Place → Place → Type 0
-Follows z Idle last last′ = Unit {0}
-Follows z (TakeMain g) last last′ = last′ ≡ last
-Follows z (TakeFirst g) last last′ = last′ ≡ last
-Follows z (SeekFirst c) last last′ = last′ ≡ last
-Follows z (TakeSecond g) last last′ = last′ ≡ last
-Follows z (SeekSecond c) last last′ = last′ ≡ last
-Follows z (RoomFirst c) last last′ = last′ ≡ last
-Follows z (RoomSecond c) last last′ = last′ ≡ last
-Follows z (WriteHit side c) last last′ = last′ ≡ last
-Follows z (WriteRoom side c) last last′ = last′ ≡ last
-Follows z Pick last last′ = Unit {0}
-Follows z (DropFirst o) last last′ = last′ ≡ last
-Follows z (DropSecond o) last last′ = last′ ≡ last
-Follows z (DropMain e) last last′ = Unit {0}
-Follows z (TakeNext g t) last last′ = last′ ≡ last
-Follows z (LookNext c t) last last′ = last′ ≡ last
-Follows z (PickNext t) last last′ = last′ .row ≡ otherRow z last
-Follows z (DropNext f t) last last′ = last′ ≡ last
-Follows z (TakeLow g w) last last′ = last′ ≡ last
-Follows z (TakeHigh g w) last last′ = last′ ≡ last
-Follows z (Swing w) last last′ = last′ ≡ last
-Follows z (DropLow w) last last′ = (swingRows z last w .shared ≡ false → last′ ≡ last) × (swingRows z last w .shared ≡ true → w .places - 1 ≢ 0 → last .row ≡ otherRow z last′)
-Follows z (DropHigh w) last last′ = w .places - 1 ≢ 0 → last .row ≡ otherRow z last′
 
 module _ (z : Sizes) (f : Part → ℕ) (μ : Measure f) (k : ℕ) where
   abbrev at : ℕ → Part → ℕ
@@ -249,8 +223,8 @@ module _ (z : Sizes) (f : Part → ℕ) (μ : Measure f) (k : ℕ) where
     shift s m r w (high-held {w = u} e) = rw (w, e, not-true (swingRows z last u .shared) (r .1 .1 .0)) (omega arith)
     shift s m r w swings = rw w refl
     shift s m r w (drops-low {w = u} e) = rw (w .0 e, e) (omega (arith, none-at (lockOf z (swingRows z last u .first))))
-    shift s m r w (drops-both {w = u} {m = n} e p) = rw e (omega (arith, swing-shift (u .places - 1) n p, none-at (lockOf z (swingRows z last u .first)), none-at (lockOf z (swingRows z last u .second))))
-    shift s m r w (drops-high {w = u} {m = n} p) = omega (arith, swing-shift (u .places - 1) n p, none-at (lockOf z (swingRows z last u .first)), none-at (lockOf z (swingRows z last u .second)))
+    shift s m r w (drops-both {w = u} {m = n} e p) = rw e (omega (arith, swing-shift _ n p, none-at (lockOf z (swingRows z last u .first)), none-at (lockOf z (swingRows z last u .second))))
+    shift s m r w (drops-high {w = u} {m = n} p) = omega (arith, swing-shift _ n p, none-at (lockOf z (swingRows z last u .first)), none-at (lockOf z (swingRows z last u .second)))
 
     -- the part that a step changes is one the lane has
     pub touched : (s : Stage) → Each (stageIn z l last s) → onLock k (touchAt z l last seen s .lock) (f (touchAt z l last seen s .before)) ≤ share z f (gripAt z l last s) k
