@@ -6,7 +6,7 @@ use mathlib.Core.Bool.{Bool, true, false, cond, _&&_}
 use Prim.Native.Nat.{ℕ, _+_, _-_, _≤_, _<_}
 use native.Mathlib.Omega.{arith}
 use lib.Dec.{ltb}
-use borrow.Author.Tests.{ltb-true}
+use borrow.Author.Tests.{eqb-true, leb-true, ltb-true}
 use Rattle.lists.proofs.Below.{Each}
 use Rattle.places.specs.declared.Sizes.{Sizes}
 use Rattle.places.specs.Table.{Fits, lockOf, slotIndex}
@@ -24,7 +24,7 @@ use Rattle.lanes.specs.declared.Walk.{Walk}
 use Rattle.lanes.specs.declared.Stage.{Stage}
 use Rattle.lanes.specs.declared.Stage.the-variants.{Idle, TakeMain, TakeFirst, SeekFirst, TakeSecond, SeekSecond, RoomFirst, RoomSecond, WriteHit, WriteRoom, Pick, DropFirst, DropSecond, DropMain, TakeNext, LookNext, PickNext, DropNext, TakeLow, TakeHigh, Swing, DropLow, DropHigh}
 use Rattle.lanes.specs.declared.Lane.{Lane}
-use Rattle.lanes.specs.Steps.{mainLock, modeOf, rowOn, swingRows, soughtRow}
+use Rattle.lanes.specs.Steps.{pathLength, mainLock, modeOf, rowOn, swingRows, soughtRow}
 use Rattle.lanes.specs.Claims.{stageIn}
 use Prim.Native.Nat.{_*_}
 use lib.ListN.{length}
@@ -40,7 +40,9 @@ use Rattle.lanes.specs.Steps.{Memory, Performed, actAt, perform, written, swung
 use Rattle.lanes.proofs.Shift.{Touch, touch, untouched, touchAt}
 use Rattle.kept.proofs.Words.{Turned, same-word, tried-word, freed-word}
 use Rattle.lanes.proofs.Grabbing.{grab-mode}
+use Rattle.kept.proofs.Facts.{PlaceFacts}
 use Rattle.kept.proofs.Long.{Lengths}
+use Rattle.paths.proofs.Other.{other-in}
 use Rattle.kept.proofs.Stores.{row-in}
 
 -- ---- locks: no word but the touched lock's changes, and that one as its part does
@@ -130,32 +132,6 @@ SlotsDo z v v′ l last (Swing w) = Swaps z v v′ last w
 SlotsDo z v v′ l last (DropLow w) = Quiet v v′
 SlotsDo z v v′ l last (DropHigh w) = Quiet v v′
 
--- where a stage moves a pair, both its places are in range
-abbrev pub SwingIn : Sizes → Place → Stage → Type 0
-SwingIn z last Idle = Unit {0}
-SwingIn z last (TakeMain g) = Unit {0}
-SwingIn z last (TakeFirst g) = Unit {0}
-SwingIn z last (SeekFirst c) = Unit {0}
-SwingIn z last (TakeSecond g) = Unit {0}
-SwingIn z last (SeekSecond c) = Unit {0}
-SwingIn z last (RoomFirst c) = Unit {0}
-SwingIn z last (RoomSecond c) = Unit {0}
-SwingIn z last (WriteHit side c) = Unit {0}
-SwingIn z last (WriteRoom side c) = Unit {0}
-SwingIn z last Pick = Unit {0}
-SwingIn z last (DropFirst o) = Unit {0}
-SwingIn z last (DropSecond o) = Unit {0}
-SwingIn z last (DropMain e) = Unit {0}
-SwingIn z last (TakeNext g t) = Unit {0}
-SwingIn z last (LookNext c t) = Unit {0}
-SwingIn z last (PickNext t) = Unit {0}
-SwingIn z last (DropNext h t) = Unit {0}
-SwingIn z last (TakeLow g w) = Unit {0}
-SwingIn z last (TakeHigh g w) = Unit {0}
-SwingIn z last (Swing w) = (slotIndex z (last .row) (last .column) < slotCount z) × (slotIndex z (w .row) (w .column) < slotCount z)
-SwingIn z last (DropLow w) = Unit {0}
-SwingIn z last (DropHigh w) = Unit {0}
-
 swap-slots : (z : Sizes) (xs : List ℕ) (last : Place) (w : Walk) → length xs ≡ slotCount z * 3 → slotIndex z (last .row) (last .column) < slotCount z → slotIndex z (w .row) (w .column) < slotCount z → Swaps z (slotAt xs) (slotAt (swung z xs last (w .row) (w .column))) last w
 swap-slots z xs last w e a b = go (holds (slotAt xs i) (last .key)) (isEmpty (slotAt xs j)) refl refl
   where
@@ -173,7 +149,7 @@ swap-slots z xs last w e a b = go (holds (slotAt xs i) (last .key)) (isEmpty (sl
     go false q h k = skips (λ m. refl)
 
 module _ (z : Sizes) (f : Fits z) (l : Lane) (last : Place) (byte : ℕ) (mem : Memory) (len : Lengths z mem) where
-  pub slots-do : (s : Stage) → Each (stageIn z l last s) → SwingIn z last s → SlotsDo z (slotAt (mem .slots)) (slotAt (perform z (actAt z l last s) byte mem .memory .slots)) l last s
+  pub slots-do : (s : Stage) → Each (stageIn z l last s) → (pathLength s ≢ 0 → PlaceFacts z last) → SlotsDo z (slotAt (mem .slots)) (slotAt (perform z (actAt z l last s) byte mem .memory .slots)) l last s
   unfolding perform actAt
   slots-do Idle r w = λ j. refl
   slots-do (TakeMain g) r w = λ j. refl
@@ -198,6 +174,11 @@ module _ (z : Sizes) (f : Fits z) (l : Lane) (last : Place) (byte : ℕ) (mem : 
   slots-do (DropNext h t) r w = λ j. refl
   slots-do (TakeLow g u) r w = λ j. refl
   slots-do (TakeHigh g u) r w = λ j. refl
-  slots-do (Swing u) r w = swap-slots z (mem .slots) last u (len .slots) (w .0) (w .1)
+  slots-do (Swing u) r w =
+      swap-slots z (mem .slots) last u (len .slots) (slot-in z f (last .row) (last .column) (facts .rowIn) (facts .columnIn))
+      (slot-in z f (u .row) (u .column) (rw (eqb-true (u .row) (otherRow z last) (r .1 .1 .1 .1 .0)) (other-in z f last)) (ltb-true (u .column) (z .columns) (r .1 .1 .1 .0)))
+    where
+      facts : PlaceFacts z last
+      facts = w (λ q. omega (arith, leb-true 1 (u .places) (r .1 .0)))
   slots-do (DropLow u) r w = λ j. refl
   slots-do (DropHigh u) r w = λ j. refl

@@ -6,7 +6,7 @@ use mathlib.Core.Bool.{true, false, _||_, false≢true}
 use Prim.Native.Nat.{ℕ, _+_, _-_, _≤_, _<_}
 use native.Mathlib.Omega.{arith}
 use lib.Dec.{ltb}
-use borrow.Author.Tests.{eqb-true, eqb-false, eq-eqb, ne-eqb, ltb-true, ltb-false, leb-true}
+use borrow.Author.Tests.{eqb-false, eq-eqb, ne-eqb, ltb-true, ltb-false}
 use Rattle.lists.proofs.Below.{Each}
 use Rattle.places.specs.declared.Sizes.{Sizes}
 use Rattle.places.specs.Table.{Fits, lockOf, maxKey, slotIndex}
@@ -50,14 +50,14 @@ use Rattle.kept.proofs.Others.{alone, share-sum}
 use Rattle.lanes.proofs.Own.{Looks, own-claims}
 use Rattle.lanes.proofs.Grabbing.{waits-fit}
 use Rattle.lanes.proofs.Single.{path-main}
-use Rattle.lanes.proofs.Range.{TryFits, LastIn, range-kept}
+use Rattle.lanes.proofs.Range.{TryFits, range-kept}
 use Rattle.kept.proofs.Long.{Lengths}
 use Rattle.lanes.proofs.Follows.{Follows}
 use Rattle.lanes.proofs.Shift.{touchAt}
 use Rattle.kept.proofs.Words.{counts-few, Alone, locks-kept}
 use Rattle.kept.proofs.Path.{PathDoes, Nobody, path-kept, lasts-kept}
 use Rattle.kept.proofs.Stores.{row-in}
-use Rattle.kept.proofs.Does.{LocksDo, locks-do, SwingIn, slots-do}
+use Rattle.kept.proofs.Does.{LocksDo, locks-do, slots-do}
 use Rattle.lanes.proofs.Route.{nextLength, length-goes, changesPath, main-at}
 use Rattle.kept.proofs.Route.{path-do, follows}
 use Rattle.kept.proofs.Slots.{SlotsKept, slots-kept}
@@ -151,62 +151,6 @@ module _ (z : Sizes) (f : Fits z) (l : Lane) (last : Place) (byte : ℕ) (mem : 
   try-fits few (Swing u) r = tt
   try-fits few (DropLow u) r = tt
   try-fits few (DropHigh u) r = tt
-
-  last-in : (s : Stage) → Each (stageIn z l last s) → (pathLength s ≢ 0 → PlaceFacts z last) → LastIn z last s
-  last-in Idle r p = tt
-  last-in (TakeMain g) r p = tt
-  last-in (TakeFirst g) r p = tt
-  last-in (SeekFirst c) r p = tt
-  last-in (TakeSecond g) r p = tt
-  last-in (SeekSecond c) r p = tt
-  last-in (RoomFirst c) r p = tt
-  last-in (RoomSecond c) r p = tt
-  last-in (WriteHit side c) r p = tt
-  last-in (WriteRoom side c) r p = tt
-  last-in Pick r p = tt
-  last-in (DropFirst o) r p = tt
-  last-in (DropSecond o) r p = tt
-  last-in (DropMain e) r p = tt
-  last-in (TakeNext g t) r p = tt
-  last-in (LookNext c t) r p = tt
-  last-in (PickNext t) r p = tt
-  last-in (DropNext x t) r p = tt
-  last-in (TakeLow g u) r p = tt
-  last-in (TakeHigh g u) r p = tt
-  last-in (Swing u) r p = tt
-  last-in (DropLow u) r p = p (λ q. omega (arith, leb-true 1 (u .places) (r .1 .0))) .columnIn
-  last-in (DropHigh u) r p = p (λ q. omega (arith, leb-true 1 (u .places) (r .1 .1 .0))) .columnIn
-
-  swing-in : (s : Stage) → Each (stageIn z l last s) → (pathLength s ≢ 0 → PlaceFacts z last) → SwingIn z last s
-  swing-in Idle r p = tt
-  swing-in (TakeMain g) r p = tt
-  swing-in (TakeFirst g) r p = tt
-  swing-in (SeekFirst c) r p = tt
-  swing-in (TakeSecond g) r p = tt
-  swing-in (SeekSecond c) r p = tt
-  swing-in (RoomFirst c) r p = tt
-  swing-in (RoomSecond c) r p = tt
-  swing-in (WriteHit side c) r p = tt
-  swing-in (WriteRoom side c) r p = tt
-  swing-in Pick r p = tt
-  swing-in (DropFirst o) r p = tt
-  swing-in (DropSecond o) r p = tt
-  swing-in (DropMain e) r p = tt
-  swing-in (TakeNext g t) r p = tt
-  swing-in (LookNext c t) r p = tt
-  swing-in (PickNext t) r p = tt
-  swing-in (DropNext x t) r p = tt
-  swing-in (TakeLow g u) r p = tt
-  swing-in (TakeHigh g u) r p = tt
-  swing-in (Swing u) r p = (slot-in z f (last .row) (last .column) (facts .rowIn) (facts .columnIn), slot-in z f (u .row) (u .column) (rw row (other-in z f last)) (ltb-true (u .column) (z .columns) (r .1 .1 .1 .0)))
-    where
-      facts : PlaceFacts z last
-      facts = p (λ q. omega (arith, leb-true 1 (u .places) (r .1 .0)))
-
-      row : u .row ≡ otherRow z last
-      row = eqb-true (u .row) (otherRow z last) (r .1 .1 .1 .1 .0)
-  swing-in (DropLow u) r p = tt
-  swing-in (DropHigh u) r p = tt
 
 -- ---- all together
 
@@ -302,11 +246,11 @@ module _ (z : Sizes) (f : Fits z) (t : Table) (len : Lengths z (memoryOf t)) (lo
   few k h = omega (arith, facts .locks k h .countIs, counts-few z σ π (facts .range) k)
 
   range′ : Each (laneIn z (m .lane) last′)
-  range′ = range-kept z f l last last′ seen s m (range .0) (range .1 .0) (range .1 .1) (try-fits z f l last byte (memoryOf t) few s (range .1 .1)) (last-in z f l last byte (memoryOf t) s (range .1 .1) last-facts) follow way
+  range′ = range-kept z f l last last′ seen s m (range .0) (range .1 .0) (range .1 .1) (try-fits z f l last byte (memoryOf t) few s (range .1 .1)) (λ d. last-facts d .columnIn) follow way
 
   slots : SlotsKept z f (slotAt (t .slots)) (slotAt (after .slots)) (lockAt (t .locks)) σ π facts i hi last′ seen m range′
   slots = slots-kept z f (slotAt (t .slots)) (slotAt (after .slots)) (lockAt (t .locks)) σ π facts i hi last′ seen m range′ s refl (range .1 .1) (facts .claims i hi) last-facts
-      (slots-do z f l last byte (memoryOf t) len s (range .1 .1) (swing-in z f l last byte (memoryOf t) s (range .1 .1) last-facts)) way
+      (slots-do z f l last byte (memoryOf t) len s (range .1 .1) last-facts) way
 
   own : Claimed z (slotAt (t .slots)) (m .lane .key) (claimsOf z (m .lane) last′)
   own = own-claims z (slotAt (t .slots)) l last last′ seen (solid z f l last byte (memoryOf t) (facts .sound) s (range .1 .1)) s m (looks z f l last byte (memoryOf t) s) follow (facts .claims i hi) way

@@ -25,7 +25,7 @@ use Rattle.lanes.specs.declared.Lane.{Lane}
 use Rattle.lanes.specs.declared.Seen.{Seen}
 use Rattle.lanes.specs.declared.Moved.{Moved}
 use Rattle.lanes.specs.Lane.{idleLane}
-use Rattle.lanes.specs.Steps.{modeOf, swingRows}
+use Rattle.lanes.specs.Steps.{pathLength, modeOf, swingRows}
 use Rattle.lanes.specs.Claims.{isInsert, isFirstPass, grabIn, laneIn, stageIn, outcomeIn, walkIn}
 use Rattle.lanes.proofs.Ways.{Leaves, leaves-hit, leaves-ended, leaves-wrote, leaves-filled, leaves-miss, leaves-picked, leaves-stuck, Swings, swings-again, swings-on, Goes, rests, main-waits, main-held, first-waits, first-held, first-read, first-hit, first-more, first-shared, first-apart, second-waits, second-held, second-read, second-hit, second-more, second-miss, second-room, room-first, room-first-more, room-first-full, room-second, room-second-more, room-pick, room-stuck, wrote-hit, wrote-room, picked-first, drops-on, drops-one, drops-two, drops-main, next-waits, next-held, next-free, next-more, next-full, next-picked, next-walk, next-over, next-again, low-waits, low-shared, low-apart, high-waits, high-held, swings, drops-low, drops-both, drops-high}
 use Rattle.lanes.proofs.Follows.{Follows}
@@ -57,31 +57,9 @@ TryFits z l seen (Swing w) = Unit {0}
 TryFits z l seen (DropLow w) = Unit {0}
 TryFits z l seen (DropHigh w) = Unit {0}
 
--- the last place is in range where it becomes the free one
+-- the last place of a lane that has any is in range
 abbrev pub LastIn : Sizes → Place → Stage → Type 0
-LastIn z last Idle = Unit {0}
-LastIn z last (TakeMain g) = Unit {0}
-LastIn z last (TakeFirst g) = Unit {0}
-LastIn z last (SeekFirst c) = Unit {0}
-LastIn z last (TakeSecond g) = Unit {0}
-LastIn z last (SeekSecond c) = Unit {0}
-LastIn z last (RoomFirst c) = Unit {0}
-LastIn z last (RoomSecond c) = Unit {0}
-LastIn z last (WriteHit side c) = Unit {0}
-LastIn z last (WriteRoom side c) = Unit {0}
-LastIn z last Pick = Unit {0}
-LastIn z last (DropFirst o) = Unit {0}
-LastIn z last (DropSecond o) = Unit {0}
-LastIn z last (DropMain e) = Unit {0}
-LastIn z last (TakeNext g t) = Unit {0}
-LastIn z last (LookNext c t) = Unit {0}
-LastIn z last (PickNext t) = Unit {0}
-LastIn z last (DropNext f t) = Unit {0}
-LastIn z last (TakeLow g w) = Unit {0}
-LastIn z last (TakeHigh g w) = Unit {0}
-LastIn z last (Swing w) = Unit {0}
-LastIn z last (DropLow w) = last .column < z .columns
-LastIn z last (DropHigh w) = last .column < z .columns
+LastIn z last s = pathLength s ≢ 0 → last .column < z .columns
 
 -- a fresh grab is in range
 fresh : (z : Sizes) (m : Mode) → grabIn z m (grabOf m) ≡ true
@@ -168,8 +146,8 @@ module _ (z : Sizes) (f : Fits z) (l : Lane) (last last′ : Place) (seen : Seen
   range-at s m r t c w (high-held {w = u} e) = (hk, (hv, (r .0, walk-on u w (r .1 .1 .1))))
   range-at s m r t c w (swings {w = u}) = (hk, (hv, (r .0, walk-on u w (r .1))))
   range-at s m r t c w (drops-low {w = u} e) = (hk, (hv, (r .0, (apart-on u (w .0 e) e, walk-on u (w .0 e) (r .1)))))
-  range-at s m r t c w (drops-both {w = u} {m = n} e p) = swing-in u n (r .0) (r .1) c (w .1 e) p
-  range-at s m r t c w (drops-high {w = u} {m = n} p) = swing-in u n (r .0) (r .1 .1) c w p
+  range-at s m r t c w (drops-both {w = u} {m = n} e p) = swing-in u n (r .0) (r .1) (c (λ q. omega (arith, leb-true 1 (u .places) (r .1 .0)))) (w .1 e) p
+  range-at s m r t c w (drops-high {w = u} {m = n} p) = swing-in u n (r .0) (r .1 .1) (c (λ q. omega (arith, leb-true 1 (u .places) (r .1 .1 .0)))) w p
 
 pub range-kept : (z : Sizes) → Fits z → (l : Lane) (last last′ : Place) (seen : Seen) (s : Stage) (m : Moved) → leb (l .key) maxKey ≡ true → (isInsert (l .op) || eqb (l .value) 0) ≡ true → Each (stageIn z l last s) → TryFits z l seen s → LastIn z last s → Follows z s last last′ → Goes z l last seen s m → Each (laneIn z (m .lane) last′)
 range-kept z f l last last′ seen s m hk hv r t c w p = range-at z f l last last′ seen hk hv s m r t c w p
