@@ -30,7 +30,7 @@ use Rattle.kept.proofs.Stepping.{step-stands}
 
 -- ---- what acceptance says
 
-accepted : (a : Started) → startNumber a ≡ 0 → a ≡ StartAccepted
+pub accepted : (a : Started) → startNumber a ≡ 0 → a ≡ StartAccepted
 accepted StartAccepted e = refl
 accepted StartBadSizes e = absurd (omega arith)
 accepted StartBadLengths e = absurd (omega arith)

@@ -74,7 +74,7 @@ module _ (z : Sizes) (f : Fits z) (l : Lane) (last : Place) (byte : ℕ) (mem : 
   abbrev D : Stage → Seen
   D s = perform z (actAt z l last s) byte mem .seen
 
-  looks : (s : Stage) → Looks z (slotAt (mem .slots)) l last (perform z (actAt z l last s) byte mem .seen) s
+  pub looks : (s : Stage) → Looks z (slotAt (mem .slots)) l last (perform z (actAt z l last s) byte mem .seen) s
   unfolding perform actAt
   looks Idle = tt
   looks (TakeMain g) = tt
@@ -206,7 +206,7 @@ module _ (z : Sizes) (f : Fits z) (t : Table) (len : Lengths z (memoryOf t)) (lo
   within-used : pathLength s ≤ used z σ
   within-used = sum-at (z .lanes) i (λ j. pathLength (σ j .stage)) hi
 
-  last-facts : pathLength s ≢ 0 → PlaceFacts z last
+  pub last-facts : pathLength s ≢ 0 → PlaceFacts z last
   last-facts d = rw (ne-eqb (pathLength s) 0 d) (facts .path .places (pathLength s - 1) (omega (arith, within-used)))
 
   nobody : changesPath s ≡ true → Nobody z σ σ′ π π′ i

@@ -1,0 +1,14 @@
+pub mod Search
+pub mod Falls
+pub mod Heaviest
+pub mod Grabs
+pub mod Ranks
+pub mod Highest
+pub mod Chosen
+pub mod Taken
+pub mod Turn
+pub mod Free
+pub mod Progress
+pub mod Finish
+pub mod Consequences
+pub mod Example

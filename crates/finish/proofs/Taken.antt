@@ -1,0 +1,175 @@
+-- One step of a busy lane of a standing table: it is accepted, the other lanes stay as they are, and what it takes off its lane's weight.
+-- Assumes nothing.
+use mathlib.Core.Path.{_≡_, _∙_, refl, ap, subst}
+use mathlib.Core.Logic.{_≢_}
+use mathlib.Core.List.{List}
+use mathlib.Core.Bool.{false}
+use Prim.Native.Nat.{ℕ, _+_, _≤_, _<_}
+use native.Mathlib.Omega.{arith}
+use borrow.Author.Tests.{lt-ltb}
+use Rattle.lists.proofs.Below.{Each}
+use Rattle.places.specs.declared.Sizes.{Sizes}
+use Rattle.locks.specs.declared.Grab.{Grab}
+use Rattle.locks.specs.declared.Tried.{Tried}
+use Rattle.locks.specs.declared.Tried.the-variants.{Waits}
+use Rattle.locks.specs.Locks.{lockAt, tryLock}
+use Rattle.locks.proofs.Views.{lock-same}
+use Rattle.paths.specs.declared.Place.{Place}
+use Rattle.paths.specs.Path.{lastOf}
+use Rattle.lanes.specs.declared.Stage.{Stage}
+use Rattle.lanes.specs.declared.Stage.the-variants.{Idle, TakeMain, TakeFirst, SeekFirst, TakeSecond, SeekSecond, RoomFirst, RoomSecond, WriteHit, WriteRoom, Pick, DropFirst, DropSecond, DropMain, TakeNext, LookNext, PickNext, DropNext, TakeLow, TakeHigh, Swing, DropLow, DropHigh}
+use Rattle.lanes.specs.declared.Lane.{Lane}
+use Rattle.lanes.specs.declared.Act.{Act}
+use Rattle.lanes.specs.declared.Act.the-variants.{Rest, Try, Release, Look, Store, PickOne, PickFrom, Move}
+use Rattle.lanes.specs.declared.Seen.{Seen}
+use Rattle.lanes.specs.declared.Answer.{Answer}
+use Rattle.lanes.specs.declared.Answer.the-variants.{GoesOn, ReadNone, ReadValue, Deleted, InsertYes, InsertSearched, InsertWalked}
+use Rattle.lanes.specs.Lane.{laneAt, withLane}
+use Rattle.lanes.specs.Steps.{pathLength, actAt, actOf, perform, advanceAt, advance, Performed, stepLane}
+use Rattle.lanes.specs.Claims.{isIdleOp, laneIn}
+use Rattle.lanes.proofs.Numbers.{lane-same, lane-other}
+use Rattle.desk.specs.Standing.{Table, lastAt}
+use Rattle.desk.specs.Desk.{memoryOf, turned, stepAnswer, stepNumbers, answerNumbers, afterStep}
+use Rattle.kept.specs.Runs.{Stood}
+use Rattle.kept.proofs.Checked.{standing-facts}
+use Rattle.kept.proofs.Long.{lengths-of, lanes-of}
+use Rattle.lanes.proofs.Ways.{goes}
+use Rattle.kept.proofs.Kept.{step-is, kept-step}
+use Rattle.finish.specs.Weight.{weight}
+use Rattle.finish.specs.Schedule.{nextAct}
+use Rattle.finish.proofs.Falls.{spent, owed, falls}
+
+-- ---- a lane that still waits: the same lock, the grab that the lock answered, the same operation and places
+
+record Same (z : Sizes) (last : Place) (k : ℕ) (g : Grab) (l l′ : Lane) : Type 0 where
+  act : actOf z l′ last ≡ Try k g
+  op : l′ .op ≡ l .op
+  path : pathLength (l′ .stage) ≡ pathLength (l .stage)
+
+module _ (z : Sizes) (l : Lane) (last : Place) (seen : Seen) where
+  abbrev at : Stage → Lane
+  at s = record { op = l .op; key = l .key; value = l .value; stage = s }
+
+  abbrev Stays : Stage → Act → Type 0
+  Stays s Rest = Unit {0}
+  Stays s (Try k g) = (g′ : Grab) → seen .tried ≡ Waits g′ → Same z last k g′ (at s) (advanceAt z l last seen s .lane)
+  Stays s (Release k mode tail) = Unit {0}
+  Stays s (Look row column) = Unit {0}
+  Stays s (Store row column x) = Unit {0}
+  Stays s (PickOne one two) = Unit {0}
+  Stays s (PickFrom row i) = Unit {0}
+  Stays s (Move from row column) = Unit {0}
+
+  stays : (s : Stage) → Stays s (actAt z l last s)
+  unfolding actAt advanceAt
+  stays Idle = tt
+  stays (TakeMain g) = λ g′ e. rw e record { act = refl; op = refl; path = refl }
+  stays (TakeFirst g) = λ g′ e. rw e record { act = refl; op = refl; path = refl }
+  stays (SeekFirst c) = tt
+  stays (TakeSecond g) = λ g′ e. rw e record { act = refl; op = refl; path = refl }
+  stays (SeekSecond c) = tt
+  stays (RoomFirst c) = tt
+  stays (RoomSecond c) = tt
+  stays (WriteHit side c) = tt
+  stays (WriteRoom side c) = tt
+  stays Pick = tt
+  stays (DropFirst o) = tt
+  stays (DropSecond o) = tt
+  stays (DropMain e) = tt
+  stays (TakeNext g t) = λ g′ e. rw e record { act = refl; op = refl; path = refl }
+  stays (LookNext c t) = tt
+  stays (PickNext t) = tt
+  stays (DropNext f t) = tt
+  stays (TakeLow g w) = λ g′ e. rw e record { act = refl; op = refl; path = refl }
+  stays (TakeHigh g w) = λ g′ e. rw e record { act = refl; op = refl; path = refl }
+  stays (Swing w) = tt
+  stays (DropLow w) = tt
+  stays (DropHigh w) = tt
+
+answer-taken : (a : Answer) → answerNumbers a .number ≡ 0
+answer-taken GoesOn = refl
+answer-taken ReadNone = refl
+answer-taken (ReadValue value) = refl
+answer-taken Deleted = refl
+answer-taken InsertYes = refl
+answer-taken InsertSearched = refl
+answer-taken InsertWalked = refl
+
+-- every lane of a standing table is in range
+pub ranges : (z : Sizes) (t : Table) → Stood z t → (j : ℕ) → j < z .lanes → Each (laneIn z (laneAt (t .lanes) j) (lastAt t j))
+unfolding lastOf
+ranges z t st j h = standing-facts z t (st .stands) .stands .range j h
+
+module _ (z : Sizes) (t : Table) (st : Stood z t) (i : ℕ) (hi : i < z .lanes) (busy : isIdleOp (laneAt (t .lanes) i .op) ≡ false) where
+  abbrev l : Lane
+  l = laneAt (t .lanes) i
+
+  abbrev done : Performed
+  done = perform z (nextAct z t i) 0 (memoryOf t)
+
+  abbrev l′ : Lane
+  l′ = advance z l (lastAt t i) (done .seen) .lane
+
+  abbrev t′ : Table
+  t′ = afterStep z t i 0
+
+  pub taken : stepNumbers (stepAnswer z t i 0) .number ≡ 0
+  unfolding stepAnswer
+  taken = rw (st .sizes, st .lengths, st .stands, lt-ltb i (z .lanes) hi, busy) (answer-taken (turned z t i 0 .answer))
+
+  pub taken-stood : Stood z t′
+  taken-stood = kept-step z t i 0 taken
+
+  -- the table after it
+  after : t′ ≡ record { slots = done .memory .slots; locks = done .memory .locks; lanes = withLane (t .lanes) i l′; path = done .memory .path }
+  unfolding turned stepLane
+  after = step-is z t i 0 taken
+
+  pub taken-here : laneAt (t′ .lanes) i ≡ l′
+  taken-here = ap (λ (u : Table). laneAt (u .lanes) i) after ∙ lane-same (t .lanes) i l′ (omega (arith, lanes-of z t (st .lengths)))
+
+  pub taken-there : (j : ℕ) → j ≢ i → laneAt (t′ .lanes) j ≡ laneAt (t .lanes) j
+  taken-there j d = ap (λ (u : Table). laneAt (u .lanes) j) after ∙ lane-other (t .lanes) i l′ j d
+
+  pub taken-falls : weight z (laneAt (t′ .lanes) i) + spent (nextAct z t i) ≤ weight z l + owed (nextAct z t i) (done .seen .tried)
+  taken-falls = rw taken-here (falls z l (lastAt t i) (done .seen) (l .stage) _ (ranges z t st i hi .1 .1) (goes z l (lastAt t i) (done .seen) (l .stage)))
+
+  -- at a grab: the lock's answer, its words, and the grab that goes on
+  module _ (k : ℕ) (g : Grab) (hk : k < z .locks + 1) (e : nextAct z t i ≡ Try k g) where
+    pub tried-answer : done .seen .tried ≡ tryLock g (lockAt (t .locks) k) .tried
+    unfolding perform
+    tried-answer = rw e refl
+
+    pub tried-falls : weight z (laneAt (t′ .lanes) i) + spent (Try k g) ≤ weight z l + owed (Try k g) (tryLock g (lockAt (t .locks) k) .tried)
+    tried-falls =
+        subst (λ (x : Tried). weight z (laneAt (t′ .lanes) i) + spent (Try k g) ≤ weight z l + owed (Try k g) x) tried-answer
+        (subst (λ (a : Act). weight z (laneAt (t′ .lanes) i) + spent a ≤ weight z l + owed a (done .seen .tried)) e taken-falls)
+
+    stored : lockAt (perform z (Try k g) 0 (memoryOf t) .memory .locks) k ≡ tryLock g (lockAt (t .locks) k) .lock
+    unfolding perform
+    stored = lock-same (t .locks) k (tryLock g (lockAt (t .locks) k) .lock) (omega (arith, lengths-of z t (st .lengths) .locks))
+
+    pub tried-lock : lockAt (t′ .locks) k ≡ tryLock g (lockAt (t .locks) k) .lock
+    tried-lock = ap (λ (u : Table). lockAt (u .locks) k) after ∙ ap (λ (a : Act). lockAt (perform z a 0 (memoryOf t) .memory .locks) k) e ∙ stored
+
+    path-kept : perform z (Try k g) 0 (memoryOf t) .memory .path ≡ t .path
+    unfolding perform
+    path-kept = refl
+
+    tried-path : t′ .path ≡ t .path
+    tried-path = ap (λ (u : Table). u .path) after ∙ ap (λ (a : Act). perform z a 0 (memoryOf t) .memory .path) e ∙ path-kept
+
+    module _ (g′ : Grab) (w : tryLock g (lockAt (t .locks) k) .tried ≡ Waits g′) where
+      same : Same z (lastAt t i) k g′ l l′
+      same = subst (λ (a : Act). Stays z l (lastAt t i) (done .seen) (l .stage) a) e (stays z l (lastAt t i) (done .seen) (l .stage)) g′ (tried-answer ∙ w)
+
+      last-same : lastAt t′ i ≡ lastAt t i
+      last-same =
+          ap (λ (x : Lane). lastOf (t′ .path) (pathLength (x .stage))) taken-here ∙ ap (λ (n : ℕ). lastOf (t′ .path) n) (same .path)
+          ∙ ap (λ (ps : List ℕ). lastOf ps (pathLength (l .stage))) tried-path
+
+      pub waits-act : nextAct z t′ i ≡ Try k g′
+      waits-act = ap (λ (x : Lane). actOf z x (lastAt t′ i)) taken-here ∙ ap (λ (p : Place). actOf z l′ p) last-same ∙ same .act
+
+      pub waits-busy : isIdleOp (laneAt (t′ .lanes) i .op) ≡ false
+      waits-busy = ap (λ (x : Lane). isIdleOp (x .op)) taken-here ∙ ap isIdleOp (same .op) ∙ busy
