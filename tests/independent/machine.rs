@@ -11,13 +11,12 @@ use std::fmt;
 /// "Keys are strokes, 0..8388607."
 pub const LAST_KEY: u32 = 8_388_607;
 
-// "Numbers the desk answers with". Only those that a job can meet.
+// "Numbers the desk answers with". Only those that the table gives in a job.
 pub const SIZE_OUT_OF_LIMITS: u8 = 1;
 pub const LANE_NOT_BELOW_N: u8 = 6;
 pub const LANE_IS_BUSY: u8 = 7;
 pub const LANE_IS_IDLE: u8 = 8;
 pub const KEY_ABOVE_LAST: u8 = 10;
-pub const JOB_MALFORMED: u8 = 11;
 
 #[derive(Clone, Copy, Debug, PartialEq, Eq)]
 pub struct Sizes {
@@ -283,6 +282,7 @@ impl Machine {
         }
     }
 
+    #[allow(dead_code)] // for the generator
     pub fn is_busy(&self, lane: usize) -> bool {
         self.lanes[lane].is_some()
     }
@@ -688,6 +688,7 @@ impl Machine {
 
     /// Does this lane's next step use the byte? "The byte is used by pick
     /// steps only."
+    #[allow(dead_code)] // for the generator and the checks
     pub fn at_pick(&self, lane: usize) -> bool {
         match &self.lanes[lane] {
             Some(work) => matches!(work.doing, Doing::FirstPick | Doing::SearchPick { .. }),

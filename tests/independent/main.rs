@@ -5,12 +5,15 @@
 
 mod machine;
 
-use machine::{Errand, Machine, Sizes, JOB_MALFORMED};
+use machine::{Errand, Machine, Sizes};
 use std::fmt::Write as _;
 use std::io::{Read, Write as _};
 
 /// "At most 60,000 bytes, from standard input"
 const LONGEST_JOB: usize = 60_000;
+
+/// "11 | job file malformed"
+const JOB_MALFORMED: u8 = 11;
 
 /// "from the fixed row of letters"
 const LETTERS: [u8; 23] = *b"#STKPWHRAO*EUFRPBLGTSDZ";
@@ -316,29 +319,34 @@ mod tests {
     #[test]
     fn the_longest_job() {
         // A writer at W2 that waits for a reader uses up any number of steps:
-        // 5 + 6 + 9 + 6 + 3k + 1 = 60,000.
+        // 5 + 6 + 9 + 6 + 3 x 19,991 = 59,999.
         let mut job = [
             vec![1, 2, 1, 1, 2],
             vec![2, 0, 1, 0, 0, 0],
             steps(0, 3),
             vec![3, 1, 1, 0, 0, 0],
+            steps(1, 19_991),
         ]
         .concat();
-        while job.len() < 59_999 {
-            job.extend([5, 1, 9]);
-        }
-        assert_eq!(job.len(), 60_001);
-        assert_eq!(print(&job), "refused 11 at 60000\n");
-        job.truncate(60_000);
-        assert_eq!(print(&job), "sizes 2 1 1 2\nrefused 11 at 59998\n");
-        job.truncate(59_998);
-        job.push(6);
-        assert_eq!(print(&job), "sizes 2 1 1 2\nend\n");
-        job.push(6);
+        assert_eq!(job.len(), 59_999);
+        let after = |job: &[u8], more: &[u8]| print(&[job, more].concat());
+        let sizes = "sizes 2 1 1 2\n";
+        assert_eq!(after(&job, &[]), format!("{sizes}refused 11 at 59999\n"));
+        assert_eq!(after(&job, &[6]), format!("{sizes}end\n"));
+        assert_eq!(after(&job, &[5]), format!("{sizes}refused 11 at 59999\n"));
+        assert_eq!(after(&job, &[6, 6]), "refused 11 at 60000\n");
+        assert_eq!(after(&job, &[5, 1]), "refused 11 at 60000\n");
+        // One step less, and a kind 6 with a byte after it.
+        job.truncate(59_996);
+        assert_eq!(after(&job, &[6, 6, 6, 6]), format!("{sizes}refused 11 at 59997\n"));
+        assert_eq!(after(&job, &[6, 6, 6, 6, 6]), "refused 11 at 60000\n");
+        // Exactly 60,000 bytes of whole records without an end: the last record
+        // is an insert of 10 bytes for a third lane.
+        job[4] = 3;
+        job.truncate(59_990);
+        job.extend([4, 2, 1, 0, 0, 0, 7, 0, 0, 0]);
         assert_eq!(job.len(), 60_000);
-        assert_eq!(print(&job), "sizes 2 1 1 2\nrefused 11 at 59999\n");
-        job.push(6);
-        assert_eq!(print(&job), "refused 11 at 60000\n");
+        assert_eq!(after(&job, &[]), "sizes 2 1 1 3\nrefused 11 at 60000\n");
     }
 
     // The walk case as a job: W=2, so an insert takes 15 steps, one more for
