@@ -100,7 +100,7 @@ module _ (z : Sizes) (f : Fits z) (l : Lane) (last : Place) (byte : ℕ) (mem : 
   looks (DropLow u) = tt
   looks (DropHigh u) = tt
 
-  solid : SoundSlots z (slotAt (mem .slots)) → (s : Stage) → Each (stageIn z l last s) → isEmpty (perform z (actAt z l last s) byte mem .seen .slot) ≡ false → isFull (perform z (actAt z l last s) byte mem .seen .slot) ≡ true
+  pub solid : SoundSlots z (slotAt (mem .slots)) → (s : Stage) → Each (stageIn z l last s) → isEmpty (perform z (actAt z l last s) byte mem .seen .slot) ≡ false → isFull (perform z (actAt z l last s) byte mem .seen .slot) ≡ true
   unfolding perform actAt
   solid sv Idle r e = absurd (false≢true (sym e))
   solid sv (TakeMain g) r e = absurd (false≢true (sym e))

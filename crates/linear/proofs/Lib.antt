@@ -1,0 +1,4 @@
+pub mod Logs
+pub mod Deeds
+pub mod Step
+pub mod Close

@@ -1,0 +1,133 @@
+-- A worked run, by computation: an insert that walks, a delete that waits behind it, and two reads beside it. The run stops before
+-- the insert's last steps, and still has it in its order, since the last read saw what it wrote.
+-- Assumes nothing.
+use mathlib.Core.Path.{_≡_, refl}
+use mathlib.Core.Bool.{Bool, true, _&&_}
+use mathlib.Core.List.{List, [], _∷_, _++_}
+use mathlib.Core.Option.{some}
+use Prim.Native.Nat.{ℕ, _*_}
+use lib.Dec.{eqb}
+use lib.ListN.{replicate}
+use borrow.Author.Tests.{eqb-true}
+use Rattle.lists.specs.Below.{sumBelow, allBelow, anyBelow, firstFrom}
+use Rattle.lists.specs.Records.{cell, put}
+use Rattle.lists.proofs.Below.{and-left, and-right}
+use Rattle.places.specs.declared.Sizes.{Sizes}
+use Rattle.places.specs.Locking.{lockOrder}
+use Rattle.places.specs.Table.{inLimits, sizesOk, slotIndex, slotCount, rowAt, homeOne, homeTwo, lockOf}
+use Rattle.slots.specs.Slot.{slotAt, withSlot, holds}
+use Rattle.slots.specs.Sound.{badShape, strays, standsBelow, faultOf, isFaulty, sound, openingFault}
+use Rattle.locks.specs.Locks.{lockAt, withLock, tryLock, released}
+use Rattle.paths.specs.Path.{placeAt, withPlace, emptied, lastOf, otherRow}
+use Rattle.lanes.specs.Claims.{gripAt, claimsAt}
+use Rattle.lanes.specs.Lane.{laneNumbers, numbersOf, laneAt, withLane, decodes}
+use Rattle.lanes.specs.Steps.{actAt, perform, advanceAt, stepLane}
+use Rattle.desk.specs.declared.Request.the-variants.{AskRead, AskDelete, AskInsert}
+use Rattle.desk.specs.Desk.{lengthsOk, opened, openingNumber, afterOpening, startAnswer, startNumber, started, afterStart, turned, stepAnswer, stepNumbers, afterStep}
+use Rattle.desk.specs.Standing.{Table, lockStands, placeStands, linked, unused, pathStands, rowStands, slotStands, laneStands, standing}
+use Rattle.linear.specs.Log.{read, delete, insert, readValue, deleted, insertSearched, starts, ends}
+use Rattle.linear.specs.Order.{Ordered}
+use Rattle.order.specs.Run.{Event, start, step, next, Run, tableAfter, bindings, logOf, orderOf, owning, endBy}
+use Rattle.order.specs.History.{history, fullAttempts}
+use Rattle.order.proofs.Order.{order}
+
+-- ---- runs, tested
+
+accepts : Sizes → Table → Event → Bool
+accepts z t (start j r) = eqb (startNumber (startAnswer z t j r)) 0
+accepts z t (step j byte) = eqb (stepNumbers (stepAnswer z t j byte) .number) 0
+
+runs : Sizes → Table → List Event → Bool
+runs z t [] = true
+runs z t (e ∷ es) = accepts z t e && runs z (next z t e) es
+
+runs-run : (z : Sizes) (t : Table) (es : List Event) → runs z t es ≡ true → Run z t es
+unfolding accepts runs
+runs-run z t [] e = tt
+runs-run z t (start j r ∷ es) e = (
+  eqb-true (startNumber (startAnswer z t j r)) 0 (and-left (accepts z t (start j r)) (runs z (next z t (start j r)) es) e),
+  runs-run z (next z t (start j r)) es (and-right (accepts z t (start j r)) (runs z (next z t (start j r)) es) e),
+)
+runs-run z t (step j byte ∷ es) e = (
+  eqb-true (stepNumbers (stepAnswer z t j byte) .number) 0 (and-left (accepts z t (step j byte)) (runs z (next z t (step j byte)) es) e),
+  runs-run z (next z t (step j byte)) es (and-right (accepts z t (step j byte)) (runs z (next z t (step j byte)) es) e),
+)
+
+-- ---- rows 3 / 1 / empty, each key with itself as value
+
+sizes : Sizes
+sizes = record { rows = 3; columns = 1; locks = 3; lanes = 3 }
+
+table : Table
+table =
+    record {
+      slots = 1 ∷ 3 ∷ 3 ∷ 1 ∷ 1 ∷ 1 ∷ 0 ∷ 0 ∷ 0 ∷ [];
+      locks = replicate 8 0;
+      lanes = replicate (3 * laneNumbers) 0;
+      path = replicate 15 0;
+    }
+
+-- n steps of a lane with byte 0
+goes : ℕ → ℕ → List Event
+goes j n = replicate n (step j 0)
+
+events : List Event
+events =
+    -- 6 has the full rows 0 and 1. The search finds room for 3 in row 2, and the walk takes the lock of row 0
+    start 0 (AskInsert 6 7) ∷ goes 0 20
+    -- a delete of 3 waits for row 0; a read of 1 sees it and holds row 1
+    ++ start 2 (AskDelete 3) ∷ step 2 0 ∷ start 1 (AskRead 1) ∷ goes 1 4
+    -- 3 moves to row 2. Now the insert waits for row 0, the delete finds 3 in row 2 and empties the slot
+    ++ goes 0 5 ++ goes 2 3 ++ step 0 0 ∷ goes 2 5
+    -- the read ends, the delete ends, the second pass fills row 0 and releases it
+    ++ step 1 0 ∷ step 2 0 ∷ goes 0 9
+    -- a read of 6 sees what was written, and ends
+    ++ start 1 (AskRead 6) ∷ goes 1 5
+
+t₀ : Table
+t₀ = afterOpening sizes table
+
+accepted : openingNumber sizes table .number ≡ 0
+unfolding sumBelow allBelow anyBelow firstFrom cell inLimits sizesOk slotIndex slotCount rowAt homeOne homeTwo slotAt holds badShape strays standsBelow faultOf isFaulty sound openingFault lengthsOk openingNumber sizes table
+accepted = refl
+
+all-run : runs sizes t₀ events ≡ true
+unfolding sumBelow allBelow anyBelow firstFrom cell put lockOrder inLimits sizesOk slotIndex slotCount rowAt homeOne homeTwo lockOf slotAt withSlot holds badShape strays standsBelow faultOf isFaulty sound openingFault lockAt withLock tryLock released placeAt withPlace emptied lastOf otherRow gripAt claimsAt numbersOf laneAt withLane decodes actAt perform advanceAt stepLane lengthsOk opened openingNumber afterOpening startAnswer started afterStart turned stepAnswer afterStep lockStands placeStands linked unused pathStands rowStands slotStands laneStands standing accepts runs sizes table goes events t₀
+all-run = refl
+
+-- ---- its log and its order
+
+the-log : logOf sizes t₀ events
+    ≡ starts 0 (insert 6 7) ∷ starts 2 (delete 3) ∷ starts 1 (read 1) ∷ ends 1 (readValue 1) ∷ ends 2 deleted ∷ starts 1 (read 6) ∷ ends 1 (readValue 7) ∷ []
+unfolding sumBelow allBelow anyBelow firstFrom cell put lockOrder inLimits sizesOk slotIndex slotCount rowAt homeOne homeTwo lockOf slotAt withSlot holds badShape strays standsBelow faultOf isFaulty sound openingFault lockAt withLock tryLock released placeAt withPlace emptied lastOf otherRow gripAt claimsAt numbersOf laneAt withLane decodes actAt perform advanceAt stepLane lengthsOk opened openingNumber afterOpening startAnswer started afterStart turned stepAnswer afterStep lockStands placeStands linked unused pathStands rowStands slotStands laneStands standing sizes table goes events t₀ owning
+the-log = refl
+
+-- read 1, delete 3, insert 6 7, read 6
+the-order : orderOf sizes t₀ events ≡ 2 ∷ 1 ∷ 0 ∷ 3 ∷ []
+unfolding sumBelow allBelow anyBelow firstFrom cell put lockOrder inLimits sizesOk slotIndex slotCount rowAt homeOne homeTwo lockOf slotAt withSlot holds badShape strays standsBelow faultOf isFaulty sound openingFault lockAt withLock tryLock released placeAt withPlace emptied lastOf otherRow gripAt claimsAt numbersOf laneAt withLane decodes actAt perform advanceAt stepLane lengthsOk opened openingNumber afterOpening startAnswer started afterStart turned stepAnswer afterStep lockStands placeStands linked unused pathStands rowStands slotStands laneStands standing sizes table goes events t₀ owning
+the-order = refl
+
+-- so the theorem speaks of this log and this order
+example : Ordered (bindings sizes table) (starts 0 (insert 6 7) ∷ starts 2 (delete 3) ∷ starts 1 (read 1) ∷ ends 1 (readValue 1) ∷ ends 2 deleted ∷ starts 1 (read 6) ∷ ends 1 (readValue 7) ∷ []) (2 ∷ 1 ∷ 0 ∷ 3 ∷ []) (bindings sizes (tableAfter sizes t₀ events))
+unfolding t₀
+example = rw (the-log, the-order) at (order sizes table events accepted (runs-run sizes t₀ events all-run))
+
+-- ---- an insert into a table of two full rows of one column: three attempts find full rows, and it says no
+
+small : Sizes
+small = record { rows = 2; columns = 1; locks = 2; lanes = 1 }
+
+crowd : Table
+crowd = record { slots = 1 ∷ 2 ∷ 2 ∷ 1 ∷ 3 ∷ 3 ∷ []; locks = replicate 6 0; lanes = replicate laneNumbers 0; path = replicate 12 0 }
+
+crowded₀ : Table
+crowded₀ = afterOpening small crowd
+
+-- what its 32 steps saw, and how the last of them ends
+full-history : fullAttempts small (history small 0 crowded₀ (start 0 (AskInsert 4 7) ∷ goes 0 32)) ≡ 3
+unfolding sumBelow allBelow anyBelow firstFrom cell put lockOrder inLimits sizesOk slotIndex slotCount rowAt homeOne homeTwo lockOf slotAt withSlot holds badShape strays standsBelow faultOf isFaulty sound openingFault lockAt withLock tryLock released placeAt withPlace emptied lastOf otherRow gripAt claimsAt numbersOf laneAt withLane decodes actAt perform advanceAt stepLane lengthsOk opened openingNumber afterOpening startAnswer started afterStart turned stepAnswer afterStep lockStands placeStands linked unused pathStands rowStands slotStands laneStands standing goes small crowd crowded₀
+full-history = refl
+
+full-end : endBy (stepAnswer small (tableAfter small crowded₀ (start 0 (AskInsert 4 7) ∷ goes 0 31)) 0 0) ≡ some insertSearched
+unfolding sumBelow allBelow anyBelow firstFrom cell put lockOrder inLimits sizesOk slotIndex slotCount rowAt homeOne homeTwo lockOf slotAt withSlot holds badShape strays standsBelow faultOf isFaulty sound openingFault lockAt withLock tryLock released placeAt withPlace emptied lastOf otherRow gripAt claimsAt numbersOf laneAt withLane decodes actAt perform advanceAt stepLane lengthsOk opened openingNumber afterOpening startAnswer started afterStart turned stepAnswer afterStep lockStands placeStands linked unused pathStands rowStands slotStands laneStands standing goes small crowd crowded₀
+full-end = refl

@@ -1,0 +1,11 @@
+pub mod Binds
+pub mod Ghosts
+pub mod Placed
+pub mod Moves
+pub mod Begins
+pub mod Order
+pub mod Tally
+pub mod Counted
+pub mod Ends
+pub mod Demand2
+pub mod Example

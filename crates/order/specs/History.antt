@@ -1,0 +1,132 @@
+-- What the steps of an operation saw since its start, and how to count it.
+-- Assumes nothing.
+use mathlib.Core.Bool.{Bool, true, false, cond, not, _&&_}
+use mathlib.Core.List.{List, [], _∷_}
+use Prim.Native.Nat.{ℕ, _+_}
+use lib.Dec.{eqb}
+use Rattle.lists.specs.Below.{bit}
+use Rattle.places.specs.declared.Sizes.{Sizes}
+use Rattle.slots.specs.declared.Slot.{Slot}
+use Rattle.slots.specs.Slot.{isFull, holds}
+use Rattle.lanes.specs.declared.Stage.{Stage}
+use Rattle.lanes.specs.declared.Stage.the-variants.{Idle, TakeMain, TakeFirst, SeekFirst, TakeSecond, SeekSecond, RoomFirst, RoomSecond, WriteHit, WriteRoom, Pick, DropFirst, DropSecond, DropMain, TakeNext, LookNext, PickNext, DropNext, TakeLow, TakeHigh, Swing, DropLow, DropHigh}
+use Rattle.lanes.specs.declared.Lane.{Lane}
+use Rattle.lanes.specs.Lane.{laneAt}
+use Rattle.lanes.specs.Steps.{actOf, perform}
+use Rattle.lanes.specs.Claims.{isSecondPass}
+use Rattle.desk.specs.Standing.{Table, lastAt}
+use Rattle.desk.specs.Desk.{memoryOf}
+use Rattle.order.specs.Run.{Event, start, step, next}
+
+-- ---- the history
+
+-- a step: its lane as it stood, and the slot that it looked at, zeros where it looked at none
+pub record Sight : Type 0 where
+  pub lane : Lane
+  pub slot : Slot
+
+abbrev pub sight : Sizes → Table → ℕ → ℕ → Sight
+sight z t j byte =
+    record { lane = laneAt (t .lanes) j; slot = perform z (actOf z (laneAt (t .lanes) j) (lastAt t j)) byte (memoryOf t) .seen .slot }
+
+-- of the operation that lane j started last, the newest step first; h is what was seen before
+abbrev pub historyFrom : Sizes → ℕ → List Sight → Table → List Event → List Sight
+historyFrom z j h t [] = h
+historyFrom z j h t (start i r ∷ es) = historyFrom z j (cond (eqb i j) [] h) (next z t (start i r)) es
+historyFrom z j h t (step i byte ∷ es) = historyFrom z j (cond (eqb i j) (sight z t i byte ∷ h) h) (next z t (step i byte)) es
+
+abbrev pub history : Sizes → ℕ → Table → List Event → List Sight
+history z j t es = historyFrom z j [] t es
+
+-- ---- what a step is, by its stage
+
+-- a look for the key or for room, at the n-th place of the first row and then the second; an attempt's look at a column; a write
+pub data Item : Type 0 where
+  seeks : ℕ → Item
+  rooms : ℕ → Item
+  tries : ℕ → Item
+  writes : Item
+  other : Item
+
+abbrev pub item : Sizes → Stage → Item
+item z Idle = other
+item z (TakeMain g) = other
+item z (TakeFirst g) = other
+item z (SeekFirst column) = seeks column
+item z (TakeSecond g) = other
+item z (SeekSecond column) = seeks (z .columns + column)
+item z (RoomFirst column) = rooms column
+item z (RoomSecond column) = rooms (z .columns + column)
+item z (WriteHit side column) = writes
+item z (WriteRoom side column) = writes
+item z Pick = other
+item z (DropFirst o) = other
+item z (DropSecond o) = other
+item z (DropMain e) = other
+item z (TakeNext g t) = other
+item z (LookNext column t) = tries column
+item z (PickNext t) = other
+item z (DropNext f t) = other
+item z (TakeLow g w) = other
+item z (TakeHigh g w) = other
+item z (Swing w) = other
+item z (DropLow w) = other
+item z (DropHigh w) = other
+
+abbrev pub isWrite : Item → Bool
+isWrite (seeks n) = false
+isWrite (rooms n) = false
+isWrite (tries n) = false
+isWrite writes = true
+isWrite other = false
+
+abbrev pub itemOf : Sizes → Sight → Item
+itemOf z s = item z (s .lane .stage)
+
+-- ---- counts
+
+-- its writes
+abbrev pub writesIn : Sizes → List Sight → ℕ
+writesIn z [] = 0
+writesIn z (s ∷ h) = writesIn z h + bit (isWrite (itemOf z s))
+
+-- the columns that the present attempt has looked at and found full, from 0 on and one after the other
+abbrev pub fullOn : Item → Bool → ℕ → ℕ
+fullOn (seeks n) full m = 0
+fullOn (rooms n) full m = 0
+fullOn (tries n) full m = cond (eqb n m && full) (m + 1) 0
+fullOn writes full m = 0
+fullOn other full m = 0
+
+abbrev pub fullColumns : Sizes → List Sight → ℕ
+fullColumns z [] = 0
+fullColumns z (s ∷ h) = fullOn (itemOf z s) (isFull (s .slot)) (fullColumns z h)
+
+-- the attempts that looked at all columns and found every one full
+abbrev pub fullAttempts : Sizes → List Sight → ℕ
+fullAttempts z [] = 0
+fullAttempts z (s ∷ h) = fullAttempts z h + bit (eqb (fullColumns z (s ∷ h)) (z .columns))
+
+-- the places of its two home rows where the second pass has looked for the key and not seen it, one after the other
+abbrev pub missOn : Bool → Item → Bool → ℕ → ℕ
+missOn second (seeks n) hit m = cond (second && (eqb n m && not hit)) (m + 1) m
+missOn second (rooms n) hit m = m
+missOn second (tries n) hit m = m
+missOn second writes hit m = m
+missOn second other hit m = m
+
+abbrev pub missed : Sizes → List Sight → ℕ
+missed z [] = 0
+missed z (s ∷ h) = missOn (isSecondPass (s .lane .op)) (itemOf z s) (holds (s .slot) (s .lane .key)) (missed z h)
+
+-- the places of its two home rows where the second pass has looked for room and seen none, one after the other
+abbrev pub roomOn : Bool → Item → Bool → ℕ → ℕ
+roomOn second (seeks n) full m = m
+roomOn second (rooms n) full m = cond (second && (eqb n m && full)) (m + 1) m
+roomOn second (tries n) full m = m
+roomOn second writes full m = m
+roomOn second other full m = m
+
+abbrev pub crowded : Sizes → List Sight → ℕ
+crowded z [] = 0
+crowded z (s ∷ h) = roomOn (isSecondPass (s .lane .op)) (itemOf z s) (isFull (s .slot)) (crowded z h)

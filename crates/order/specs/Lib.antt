@@ -1,0 +1,3 @@
+pub mod Run
+pub mod History
+pub mod Demand2
