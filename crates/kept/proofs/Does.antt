@@ -2,7 +2,7 @@
 -- Assumes nothing.
 use mathlib.Core.Path.{_≡_, refl, ap, sym}
 use mathlib.Core.Logic.{_≢_}
-use mathlib.Core.Bool.{Bool, true, false, cond, _&&_}
+use mathlib.Core.Bool.{true}
 use Prim.Native.Nat.{ℕ, _+_, _-_, _≤_, _<_}
 use native.Mathlib.Omega.{arith}
 use lib.Dec.{ltb}
@@ -11,7 +11,6 @@ use Rattle.lists.proofs.Below.{Each}
 use Rattle.places.specs.declared.Sizes.{Sizes}
 use Rattle.places.specs.Table.{Fits, lockOf, slotIndex}
 use Rattle.slots.specs.declared.Slot.{Slot}
-use Rattle.slots.specs.Slot.{isEmpty, holds}
 use Rattle.locks.specs.declared.Mode.{Mode}
 use Rattle.locks.specs.declared.Mode.the-variants.{Reading, Writing}
 use Rattle.locks.specs.declared.Grab.{Grab}
@@ -20,7 +19,6 @@ use Rattle.paths.specs.declared.Place.{Place}
 use Rattle.paths.specs.Path.{otherRow}
 use Rattle.lanes.specs.declared.Side.{Side}
 use Rattle.lanes.specs.declared.Side.the-variants.{First, Second}
-use Rattle.lanes.specs.declared.Walk.{Walk}
 use Rattle.lanes.specs.declared.Stage.{Stage}
 use Rattle.lanes.specs.declared.Stage.the-variants.{Idle, TakeMain, TakeFirst, SeekFirst, TakeSecond, SeekSecond, RoomFirst, RoomSecond, WriteHit, WriteRoom, Pick, DropFirst, DropSecond, DropMain, TakeNext, LookNext, PickNext, DropNext, TakeLow, TakeHigh, Swing, DropLow, DropHigh}
 use Rattle.lanes.specs.declared.Lane.{Lane}
@@ -29,17 +27,17 @@ use Rattle.lanes.specs.Claims.{stageIn}
 use Prim.Native.Nat.{_*_}
 use lib.ListN.{length}
 use mathlib.Core.List.{List}
-use Rattle.places.specs.Table.{slotCount}
 use Rattle.places.proofs.Limits.{slot-in}
-use Rattle.slots.specs.Slot.{slotAt, withSlot, emptySlot, fullSlot}
-use Rattle.slots.proofs.Views.{Sets, store-sets, slot-length}
+use Rattle.slots.specs.Slot.{slotAt, fullSlot}
+use Rattle.slots.proofs.Views.{Sets, store-sets}
 use Rattle.locks.specs.Locks.{lockAt, withLock, tryLock, released}
 use Rattle.locks.proofs.Views.{lock-same, lock-other}
 use Rattle.locks.proofs.Grabs.{grabMode, partAfter}
-use Rattle.lanes.specs.Steps.{Memory, Performed, actAt, perform, written, swung}
+use Rattle.lanes.specs.Steps.{Memory, Performed, actAt, perform, written}
 use Rattle.lanes.proofs.Shift.{Touch, touch, untouched, touchAt}
 use Rattle.kept.proofs.Words.{Turned, same-word, tried-word, freed-word}
 use Rattle.lanes.proofs.Grabbing.{grab-mode}
+use Rattle.lanes.proofs.Swaps.{Swaps, swap-slots}
 use Rattle.kept.proofs.Facts.{PlaceFacts}
 use Rattle.kept.proofs.Long.{Lengths}
 use Rattle.paths.proofs.Other.{other-in}
@@ -100,10 +98,6 @@ module _ (z : Sizes) (f : Fits z) (l : Lane) (last : Place) (byte : ℕ) (mem : 
 
 -- ---- slots: one slot of a write, the two of a swing that moves, and no other
 
-pub data Swaps (z : Sizes) (v v′ : ℕ → Slot) (last : Place) (w : Walk) : Type 0 where
-  moves : (v₁ : ℕ → Slot) → holds (v (slotIndex z (last .row) (last .column))) (last .key) ≡ true → isEmpty (v (slotIndex z (w .row) (w .column))) ≡ true → Sets v v₁ (slotIndex z (last .row) (last .column)) emptySlot → Sets v₁ v′ (slotIndex z (w .row) (w .column)) (v (slotIndex z (last .row) (last .column))) → Swaps z v v′ last w
-  skips : ((j : ℕ) → v′ j ≡ v j) → Swaps z v v′ last w
-
 abbrev pub Quiet : (ℕ → Slot) → (ℕ → Slot) → Type 0
 Quiet v v′ = (j : ℕ) → v′ j ≡ v j
 
@@ -131,22 +125,6 @@ SlotsDo z v v′ l last (TakeHigh g w) = Quiet v v′
 SlotsDo z v v′ l last (Swing w) = Swaps z v v′ last w
 SlotsDo z v v′ l last (DropLow w) = Quiet v v′
 SlotsDo z v v′ l last (DropHigh w) = Quiet v v′
-
-swap-slots : (z : Sizes) (xs : List ℕ) (last : Place) (w : Walk) → length xs ≡ slotCount z * 3 → slotIndex z (last .row) (last .column) < slotCount z → slotIndex z (w .row) (w .column) < slotCount z → Swaps z (slotAt xs) (slotAt (swung z xs last (w .row) (w .column))) last w
-swap-slots z xs last w e a b = go (holds (slotAt xs i) (last .key)) (isEmpty (slotAt xs j)) refl refl
-  where
-    i : ℕ
-    i = slotIndex z (last .row) (last .column)
-
-    j : ℕ
-    j = slotIndex z (w .row) (w .column)
-
-    go : (p q : Bool) → holds (slotAt xs i) (last .key) ≡ p → isEmpty (slotAt xs j) ≡ q → Swaps z (slotAt xs) (slotAt (cond (p && q) (withSlot (withSlot xs i emptySlot) j (slotAt xs i)) xs)) last w
-    go true true h k =
-        moves (slotAt (withSlot xs i emptySlot)) h k (store-sets xs i emptySlot (omega arith))
-        (store-sets (withSlot xs i emptySlot) j (slotAt xs i) (omega (arith, slot-length xs i emptySlot)))
-    go true false h k = skips (λ m. refl)
-    go false q h k = skips (λ m. refl)
 
 module _ (z : Sizes) (f : Fits z) (l : Lane) (last : Place) (byte : ℕ) (mem : Memory) (len : Lengths z mem) where
   pub slots-do : (s : Stage) → Each (stageIn z l last s) → (pathLength s ≢ 0 → PlaceFacts z last) → SlotsDo z (slotAt (mem .slots)) (slotAt (perform z (actAt z l last s) byte mem .memory .slots)) l last s

@@ -38,7 +38,8 @@ use Rattle.lanes.proofs.Guards.{store-hit, store-room, swing-from, swing-to}
 use Rattle.kept.proofs.Others.{alone}
 use Rattle.lanes.proofs.Own.{no-claims}
 use Rattle.kept.proofs.Stores.{row-in, hit-stored, room-stored, swing-moved, claims-quiet, claims-stored}
-use Rattle.kept.proofs.Does.{moves, skips, Quiet, SlotsDo}
+use Rattle.lanes.proofs.Swaps.{moves, skips}
+use Rattle.kept.proofs.Does.{Quiet, SlotsDo}
 
 -- ---- a lane that has written or swung claims nothing
 

@@ -11,4 +11,5 @@ pub mod Shift
 pub mod Guards
 pub mod Single
 pub mod Picks
+pub mod Swaps
 pub mod Own

@@ -28,7 +28,8 @@ use Rattle.lanes.specs.Claims.{stageIn, claimsAt, roomClaims}
 use Rattle.lanes.proofs.Claimed.{Claimed}
 use Rattle.kept.proofs.Facts.{PlaceFacts}
 use Rattle.kept.proofs.Stores.{bindsTo, hit-stored, room-stored, swing-moved}
-use Rattle.kept.proofs.Does.{moves, skips, Quiet, SlotsDo}
+use Rattle.lanes.proofs.Swaps.{moves, skips}
+use Rattle.kept.proofs.Does.{Quiet, SlotsDo}
 use Rattle.linear.specs.Map.{Bindings, binds}
 
 -- ---- the plain map
