@@ -2,7 +2,8 @@
 -- Assumes nothing.
 use mathlib.Core.Path.{_≡_, ap, refl}
 use mathlib.Core.List.{List, [], _∷_, map}
-use Prim.Native.Nat.{ℕ, _*_}
+use Prim.Native.Nat.{ℕ, _*_, _≤_}
+use native.Mathlib.Omega.{arith}
 use lib.ListN.{length, replicate}
 use Rattle.lists.specs.Below.{sumBelow, allBelow, anyBelow, firstFrom}
 use Rattle.lists.specs.Records.{cell, put}
@@ -85,6 +86,10 @@ knot-untied = refl
 pub knot-length : length (scheduleFor z knot) ≡ 24
 knot-length = ap length knot-untied
 
-pub knot-bound : stepBound z * unfinished z knot ≡ 720
+pub knot-lanes : unfinished z knot ≡ 3
 unfolding sumBelow allBelow anyBelow firstFrom cell put lockOrder inLimits sizesOk slotIndex slotCount rowAt homeOne homeTwo lockOf slotAt withSlot holds badShape strays standsBelow faultOf isFaulty sound openingFault lockAt withLock tryLock released placeAt withPlace emptied lastOf otherRow gripAt claimsAt numbersOf laneAt withLane decodes actAt perform advanceAt stepLane lengthsOk opened openingNumber afterOpening startAnswer started afterStart turned stepAnswer afterStep lockStands placeStands linked unused pathStands rowStands slotStands laneStands standing
-knot-bound = refl
+knot-lanes = refl
+
+-- 24 steps, beside 20 x 4 x 3 for each of three lanes
+pub knot-within : length (scheduleFor z knot) ≤ stepBound z * unfinished z knot
+knot-within = omega (arith, knot-length, knot-lanes)

@@ -19,35 +19,21 @@ use Rattle.lanes.specs.declared.Outcome.{Outcome}
 use Rattle.lanes.specs.declared.Stage.{Stage}
 use Rattle.lanes.specs.declared.Lane.{Lane}
 use Rattle.lanes.specs.declared.Act.{Act}
-use Rattle.lanes.specs.declared.Act.the-variants.{Rest, Try, Release, Look, Store, PickOne, PickFrom, Move}
 use Rattle.lanes.specs.declared.Seen.{Seen}
 use Rattle.lanes.specs.declared.Moved.{Moved}
 use Rattle.lanes.specs.Steps.{modeOf, actAt}
 use Rattle.lanes.specs.Claims.{isFirstPass, outcomeIn, stageIn}
 use Rattle.lanes.proofs.Ways.{Leaves, leaves-hit, leaves-ended, leaves-wrote, leaves-filled, leaves-miss, leaves-picked, leaves-stuck, Swings, swings-again, swings-on, Goes, rests, main-waits, main-held, first-waits, first-held, first-read, first-hit, first-more, first-shared, first-apart, second-waits, second-held, second-read, second-hit, second-more, second-miss, second-room, room-first, room-first-more, room-first-full, room-second, room-second-more, room-pick, room-stuck, wrote-hit, wrote-room, picked-first, drops-on, drops-one, drops-two, drops-main, next-waits, next-held, next-free, next-more, next-full, next-picked, next-walk, next-over, next-again, low-waits, low-shared, low-apart, high-waits, high-held, swings, drops-low, drops-both, drops-high}
 use Rattle.finish.specs.Weight.{grabWeight, triedWeight, walkWeight, searchWeight, laterWeight, stageWeight, weight}
+use Rattle.finish.specs.Schedule.{onAct}
 use Rattle.finish.proofs.Search.{search-next, search-walk}
 
 -- what a step spends, and what the lock's answer leaves to be spent
 abbrev pub spent : Act → ℕ
-spent Rest = 0
-spent (Try k g) = grabWeight g
-spent (Release k mode tail) = 1
-spent (Look row column) = 1
-spent (Store row column s) = 1
-spent (PickOne one two) = 1
-spent (PickFrom row i) = 1
-spent (Move from row column) = 1
+spent a = onAct a 0 (λ k g. grabWeight g) 1
 
 abbrev pub owed : Act → Tried → ℕ
-owed Rest t = 0
-owed (Try k g) t = triedWeight t
-owed (Release k mode tail) t = 0
-owed (Look row column) t = 0
-owed (Store row column s) t = 0
-owed (PickOne one two) t = 0
-owed (PickFrom row i) t = 0
-owed (Move from row column) t = 0
+owed a t = onAct a 0 (λ k g. triedWeight t) 0
 
 fresh-weighs : (m : Mode) → grabWeight (grabOf m) ≤ 3
 fresh-weighs Reading = omega arith

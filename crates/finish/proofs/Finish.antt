@@ -123,6 +123,11 @@ finish z t st =
       each = λ j h. omega (arith, ends z t st .each j h, weighs-within z (laneAt (t .lanes) j) (lastAt t j) (ranges z t st j h));
     }
 
+-- its schedule is the one that `scheduleFor` computes
+pub finish-is : (z : Sizes) (t : Table) (st : Stood z t) → finish z t st .schedule ≡ scheduleFor z t
+unfolding finish
+finish-is z t st = refl
+
 -- demand 3's last sentence
 pub finish-reached : (z : Sizes) (t : Table) → Reached z t → Finishes z t
 finish-reached z t r = finish z t (kept z t r)

@@ -23,14 +23,14 @@ use Rattle.lanes.specs.declared.Op.{Op}
 use Rattle.lanes.specs.declared.Op.the-variants.{NoOp, Read, Delete, Insert, Again}
 use Rattle.lanes.specs.declared.Side.the-variants.{First, Second}
 use Rattle.lanes.specs.declared.Stage.{Stage}
-use Rattle.lanes.specs.declared.Stage.the-variants.{Idle, TakeMain, TakeFirst, SeekFirst, TakeSecond, SeekSecond, RoomFirst, RoomSecond, WriteHit, WriteRoom, Pick, DropFirst, DropSecond, DropMain, TakeNext, LookNext, PickNext, DropNext, TakeLow, TakeHigh, Swing, DropLow, DropHigh}
+use Rattle.lanes.specs.declared.Stage.the-variants.{Idle}
 use Rattle.lanes.specs.declared.Lane.{Lane}
 use Rattle.lanes.specs.declared.Act.{Act}
-use Rattle.lanes.specs.declared.Act.the-variants.{Rest, Try, Release, Look, Store, PickOne, PickFrom, Move}
 use Rattle.lanes.specs.Steps.{mainLock, modeOf, rowOn, sharedRows, swingRows, actAt}
 use Rattle.lanes.specs.Claims.{isIdleOp, mainPart, onLock, share, gripAt, stageIn}
 use Rattle.lanes.proofs.Shift.{Measure, none-at, flag-measure, count-measure}
-use Rattle.finish.specs.Schedule.{rankOf, grabUrgency, actUrgency}
+use Rattle.finish.specs.Schedule.{rankOf, topUrgency, grabUrgency, actUrgency}
+use Rattle.finish.proofs.Aims.{Takes, at-main, at-first, at-second, at-next, at-low, at-high, Aims, rests, takes, plain, aims}
 use Rattle.finish.proofs.Ranks.{rank-most, not-main, not-below, grab-rank, grab-count, grab-flag}
 
 off : (k x n : ℕ) → k ≢ x → onLock k x n ≡ 0
@@ -47,16 +47,6 @@ idle-main Again e = absurd (false≢true e)
 -- ---- what a lane that waits for lock a has in a lock that ranks no lower: its grab of a, and nothing that it holds
 
 module _ (z : Sizes) (fits : Fits z) (f : Part → ℕ) (μ : Measure f) (k : ℕ) (l : Lane) (last : Place) where
-  abbrev Wants : Stage → Act → Type 0
-  Wants s Rest = share z f (gripAt z l last s) k ≡ 0
-  Wants s (Try a g) = rankOf z a ≤ rankOf z k → share z f (gripAt z l last s) k ≡ onLock k a (f (Tries g))
-  Wants s (Release a mode tail) = Unit {0}
-  Wants s (Look row column) = Unit {0}
-  Wants s (Store row column x) = Unit {0}
-  Wants s (PickOne one two) = Unit {0}
-  Wants s (PickFrom row i) = Unit {0}
-  Wants s (Move from row column) = Unit {0}
-
   abbrev none : (x : ℕ) → onLock k x (f NoPart) ≡ 0
   none x = none-at z f μ k x
 
@@ -68,65 +58,46 @@ module _ (z : Sizes) (fits : Fits z) (f : Part → ℕ) (μ : Measure f) (k : �
   past-first : (a b : ℕ) (p : Part) → lockOf z a < lockOf z b → rankOf z (lockOf z b) ≤ rankOf z k → onLock k (lockOf z a) (f p) ≡ 0
   past-first a b p d h = off k (lockOf z a) (f p) (λ e. omega (arith, not-below z k (lockOf z b) (lock-in z fits b) h))
 
-  pub wants : (s : Stage) → Each (stageIn z l last s) → Wants s (actAt z l last s)
-  unfolding actAt gripAt
-  wants Idle r = rw (idle-main (l .op) (r .0)) (omega (arith, none (mainLock z), none (lockOf z (rowOn z (l .key) First)), none (lockOf z (rowOn z (l .key) Second))))
-  wants (TakeMain g) r = λ h. omega (arith, none (mainLock z))
-  wants (TakeFirst g) r = λ h. omega (arith, past-main (rowOn z (l .key) First) (mainPart (l .op)) h, none (lockOf z (rowOn z (l .key) Second)))
-  wants (SeekFirst c) r = tt
-  wants (TakeSecond g) r = λ h.
+  wants : {s : Stage} {a : ℕ} {g : Grab} → Takes z l last s a g → Each (stageIn z l last s) → rankOf z a ≤ rankOf z k → share z f (gripAt z l last s) k ≡ onLock k a (f (Tries g))
+  unfolding gripAt
+  wants at-main r h = omega (arith, none (mainLock z))
+  wants at-first r h = omega (arith, past-main (rowOn z (l .key) First) (mainPart (l .op)) h, none (lockOf z (rowOn z (l .key) Second)))
+  wants at-second r h =
       omega (
         arith,
         past-main (rowOn z (l .key) Second) (mainPart (l .op)) h,
         past-first (rowOn z (l .key) First) (rowOn z (l .key) Second) (Holds (modeOf (l .op))) (order-locks z (homeOne z (l .key)) (homeTwo z (l .key)) (not-true (sharedRows z (l .key)) (r .1 .1 .0))) h,
       )
-  wants (SeekSecond c) r = tt
-  wants (RoomFirst c) r = tt
-  wants (RoomSecond c) r = tt
-  wants (WriteHit side c) r = tt
-  wants (WriteRoom side c) r = tt
-  wants Pick r = tt
-  wants (DropFirst o) r = tt
-  wants (DropSecond o) r = tt
-  wants (DropMain e) r = tt
-  wants (TakeNext g t) r = λ h. omega (arith, past-main (otherRow z last) (Holds Writing) h, none (lockOf z (otherRow z last)))
-  wants (LookNext c t) r = tt
-  wants (PickNext t) r = tt
-  wants (DropNext x t) r = tt
-  wants (TakeLow g w) r = λ h. omega (arith, past-main (swingRows z last w .first) (Holds Writing) h, none (lockOf z (swingRows z last w .second)))
-  wants (TakeHigh g w) r = λ h.
+  wants at-next r h = omega (arith, past-main (otherRow z last) (Holds Writing) h, none (lockOf z (otherRow z last)))
+  wants (at-low {w}) r h = omega (arith, past-main (swingRows z last w .first) (Holds Writing) h, none (lockOf z (swingRows z last w .second)))
+  wants (at-high {w}) r h =
       omega (
         arith,
         past-main (swingRows z last w .second) (Holds Writing) h,
         past-first (swingRows z last w .first) (swingRows z last w .second) (Holds Writing) (order-locks z (last .row) (w .row) (not-true (swingRows z last w .shared) (r .1 .1 .0))) h,
       )
-  wants (Swing w) r = tt
-  wants (DropLow w) r = tt
-  wants (DropHigh w) r = tt
+
+  -- an idle lane has no part in any
+  idles : Each (stageIn z l last Idle) → share z f (gripAt z l last Idle) k ≡ 0
+  unfolding gripAt
+  idles r = rw (idle-main (l .op) (r .0)) (omega (arith, none (mainLock z), none (lockOf z (rowOn z (l .key) First)), none (lockOf z (rowOn z (l .key) Second))))
 
 -- ---- a lane that is no more urgent than a waiter for lock k has no share in k that its grab has not
 
-module _ (z : Sizes) (fits : Fits z) (k : ℕ) (hk : k < z .locks + 1) (ls : List ℕ) (l : Lane) (last : Place) (s : Stage) (r : Each (stageIn z l last s)) where
-  no-share : (f : Part → ℕ) (μ : Measure f) (b : ℕ) → b ≤ 2 * rankOf z k + 2 → ((a : ℕ) (g : Grab) → grabUrgency z (lockAt ls a) a g ≤ b → onLock k a (f (Tries g)) ≡ 0) → actUrgency z ls (actAt z l last s) ≤ b → share z f (gripAt z l last s) k ≡ 0
-  no-share f μ b few none u = go (actAt z l last s) (wants z fits f μ k l last s r) u
-    where
-      go : (a : Act) → Wants z fits f μ k l last s a → actUrgency z ls a ≤ b → share z f (gripAt z l last s) k ≡ 0
-      go Rest h v = h
-      go (Try a g) h v = h (grab-rank z (lockAt ls a) a (rankOf z k) g (rank-most z k hk) (omega arith)) ∙ none a g v
-      go (Release a mode tail) h v = absurd (omega (arith, rank-most z k hk))
-      go (Look row column) h v = absurd (omega (arith, rank-most z k hk))
-      go (Store row column x) h v = absurd (omega (arith, rank-most z k hk))
-      go (PickOne one two) h v = absurd (omega (arith, rank-most z k hk))
-      go (PickFrom row i) h v = absurd (omega (arith, rank-most z k hk))
-      go (Move from row column) h v = absurd (omega (arith, rank-most z k hk))
+module _ (z : Sizes) (fits : Fits z) (k : ℕ) (hk : k < z .locks + 1) (ls : List ℕ) (l : Lane) (last : Place) where
+  no-share : (f : Part → ℕ) (μ : Measure f) (b : ℕ) → b ≤ 2 * rankOf z k + 2 → ((a : ℕ) (g : Grab) → grabUrgency z (lockAt ls a) a g ≤ b → onLock k a (f (Tries g)) ≡ 0)
+      → {s : Stage} {a : Act} → Aims z l last s a → Each (stageIn z l last s) → actUrgency z ls a ≤ b → share z f (gripAt z l last s) k ≡ 0
+  no-share f μ b few none rests r u = idles z fits f μ k l last r
+  no-share f μ b few none (takes {k = a} {g} t) r u = wants z fits f μ k l last t r (grab-rank z (lockAt ls a) a (rankOf z k) g (rank-most z k hk) (omega arith)) ∙ none a g u
+  no-share f μ b few none (plain e) r u = absurd (omega (arith, rank-most z k hk, e 0 (λ k g. grabUrgency z (lockAt ls k) k g) (topUrgency z)))
 
   -- none counts there
-  pub no-count : actUrgency z ls (actAt z l last s) ≤ 2 * rankOf z k + 2 → share z partCount (gripAt z l last s) k ≡ 0
-  no-count = no-share partCount count-measure (2 * rankOf z k + 2) (omega arith) (λ a g v. rw (grab-count z (lockAt ls a) a (rankOf z k) g (rank-most z k hk) v) (none-at z partCount count-measure k a))
+  pub no-count : (s : Stage) → Each (stageIn z l last s) → actUrgency z ls (actAt z l last s) ≤ 2 * rankOf z k + 2 → share z partCount (gripAt z l last s) k ≡ 0
+  no-count s = no-share partCount count-measure (2 * rankOf z k + 2) (omega arith) (λ a g v. rw (grab-count z (lockAt ls a) a (rankOf z k) g (rank-most z k hk) v) (none-at z partCount count-measure k a)) (aims z l last s)
 
   -- and none has set its flag, if the waiter has not
-  pub no-flag : actUrgency z ls (actAt z l last s) ≤ 2 * rankOf z k + 1 → share z partFlag (gripAt z l last s) k ≡ 0
-  no-flag = no-share partFlag flag-measure (2 * rankOf z k + 1) (omega arith) (λ a g v. elim (ℕ-discrete k a) [
+  pub no-flag : (s : Stage) → Each (stageIn z l last s) → actUrgency z ls (actAt z l last s) ≤ 2 * rankOf z k + 1 → share z partFlag (gripAt z l last s) k ≡ 0
+  no-flag s = no-share partFlag flag-measure (2 * rankOf z k + 1) (omega arith) (λ a g v. elim (ℕ-discrete k a) [
     | yes e ↦ rw (grab-flag z (lockAt ls a) a g (rw e at v)) (none-at z partFlag flag-measure k a)
     | no d ↦ off k a (grabFlag g) d
-  ])
+  ]) (aims z l last s)

@@ -1,4 +1,5 @@
 pub mod Search
+pub mod Aims
 pub mod Falls
 pub mod Heaviest
 pub mod Grabs

@@ -9,73 +9,30 @@ use Rattle.lists.proofs.Below.{Each}
 use Rattle.places.specs.declared.Sizes.{Sizes}
 use Rattle.places.specs.Table.{Fits}
 use Rattle.places.proofs.Limits.{ok-fits}
-use Rattle.places.proofs.Locking.{lock-in}
 use Rattle.locks.specs.declared.Grab.{Grab}
 use Rattle.locks.specs.declared.Tried.{Tried}
 use Rattle.locks.specs.Locks.{lockAt}
-use Rattle.paths.specs.declared.Place.{Place}
-use Rattle.paths.specs.Path.{otherRow}
-use Rattle.lanes.specs.declared.Side.the-variants.{First, Second}
 use Rattle.lanes.specs.declared.Stage.{Stage}
-use Rattle.lanes.specs.declared.Stage.the-variants.{Idle, TakeMain, TakeFirst, SeekFirst, TakeSecond, SeekSecond, RoomFirst, RoomSecond, WriteHit, WriteRoom, Pick, DropFirst, DropSecond, DropMain, TakeNext, LookNext, PickNext, DropNext, TakeLow, TakeHigh, Swing, DropLow, DropHigh}
-use Rattle.lanes.specs.declared.Lane.{Lane}
+use Rattle.lanes.specs.declared.Stage.the-variants.{Idle}
 use Rattle.lanes.specs.declared.Act.{Act}
-use Rattle.lanes.specs.declared.Act.the-variants.{Rest, Try, Release, Look, Store, PickOne, PickFrom, Move}
+use Rattle.lanes.specs.declared.Act.the-variants.{Try}
 use Rattle.lanes.specs.Lane.{laneAt}
-use Rattle.lanes.specs.Steps.{rowOn, swingRows, actAt, perform}
+use Rattle.lanes.specs.Steps.{actAt, perform}
 use Rattle.lanes.specs.Claims.{isIdleOp, stageIn}
 use Rattle.desk.specs.Standing.{Table, lastAt}
 use Rattle.desk.specs.Desk.{memoryOf, afterStep}
 use Rattle.kept.specs.Runs.{Stood}
 use Rattle.kept.proofs.Starting.{idle-stage}
-use Rattle.finish.specs.Weight.{weight}
-use Rattle.finish.specs.Schedule.{grabTurns, actUrgency, actTurns, nextAct, urgency, chosen}
+use Rattle.finish.specs.Weight.{grabWeight, triedWeight, weight}
+use Rattle.finish.specs.Schedule.{topUrgency, grabUrgency, grabTurns, actUrgency, actTurns, nextAct, urgency, chosen}
 use Rattle.finish.proofs.Falls.{spent, owed}
 use Rattle.finish.proofs.Grabs.{Pays, pays-turn, turns-some}
+use Rattle.finish.proofs.Aims.{Aims, rests, takes, plain, aims, takes-in}
 use Rattle.finish.proofs.Ranks.{grab-urges}
 use Rattle.finish.proofs.Free.{clear}
 use Rattle.finish.proofs.Chosen.{chosen-in, chosen-most}
 use Rattle.finish.proofs.Taken.{ranges, taken-falls}
 use Rattle.finish.proofs.Turn.{Ran, one-step, run-tries}
-
--- ---- of a lane's act: who rests is idle, and a lock to take is there
-
-module _ (z : Sizes) (fits : Fits z) (l : Lane) (last : Place) where
-  abbrev Acting : Act → Type 0
-  Acting Rest = isIdleOp (l .op) ≡ true
-  Acting (Try k g) = k < z .locks + 1
-  Acting (Release k mode tail) = Unit {0}
-  Acting (Look row column) = Unit {0}
-  Acting (Store row column s) = Unit {0}
-  Acting (PickOne one two) = Unit {0}
-  Acting (PickFrom row i) = Unit {0}
-  Acting (Move from row column) = Unit {0}
-
-  acting : (s : Stage) → Each (stageIn z l last s) → Acting (actAt z l last s)
-  unfolding actAt
-  acting Idle r = r .0
-  acting (TakeMain g) r = omega arith
-  acting (TakeFirst g) r = omega (arith, lock-in z fits (rowOn z (l .key) First))
-  acting (SeekFirst c) r = tt
-  acting (TakeSecond g) r = omega (arith, lock-in z fits (rowOn z (l .key) Second))
-  acting (SeekSecond c) r = tt
-  acting (RoomFirst c) r = tt
-  acting (RoomSecond c) r = tt
-  acting (WriteHit side c) r = tt
-  acting (WriteRoom side c) r = tt
-  acting Pick r = tt
-  acting (DropFirst o) r = tt
-  acting (DropSecond o) r = tt
-  acting (DropMain e) r = tt
-  acting (TakeNext g t) r = omega (arith, lock-in z fits (otherRow z last))
-  acting (LookNext c t) r = tt
-  acting (PickNext t) r = tt
-  acting (DropNext f t) r = tt
-  acting (TakeLow g w) r = omega (arith, lock-in z fits (swingRows z last w .first))
-  acting (TakeHigh g w) r = omega (arith, lock-in z fits (swingRows z last w .second))
-  acting (Swing w) r = tt
-  acting (DropLow w) r = tt
-  acting (DropHigh w) r = tt
 
 -- ---- the turn of a lane of a table
 
@@ -94,22 +51,14 @@ module _ (z : Sizes) (t : Table) (st : Stood z t) where
   pub chosen-lane : i < z .lanes
   chosen-lane = chosen-in z t (fits .lanesLow)
 
-  acts : (j : ℕ) → j < z .lanes → Acting z fits (laneAt (t .lanes) j) (lastAt t j) (nextAct z t j)
-  acts j h = acting z fits (laneAt (t .lanes) j) (lastAt t j) (laneAt (t .lanes) j .stage) (ranges z t st j h .1 .1)
-
   -- nobody is urgent: all are idle
   pub all-idle : urgency z t i ≡ 0 → (j : ℕ) → j < z .lanes → isIdleOp (laneAt (t .lanes) j .op) ≡ true
-  all-idle u j h = go (nextAct z t j) (acts j h) (omega (arith, u, chosen-most z t (fits .lanesLow) j h))
+  all-idle u j h = go (aims z (laneAt (t .lanes) j) (lastAt t j) (laneAt (t .lanes) j .stage)) (ranges z t st j h .1 .1) (omega (arith, u, chosen-most z t (fits .lanesLow) j h))
     where
-      go : (a : Act) → Acting z fits (laneAt (t .lanes) j) (lastAt t j) a → actUrgency z (t .locks) a ≡ 0 → isIdleOp (laneAt (t .lanes) j .op) ≡ true
-      go Rest r v = r
-      go (Try k g) r v = absurd (omega (arith, grab-urges z (lockAt (t .locks) k) k g))
-      go (Release k mode tail) r v = absurd (omega arith)
-      go (Look row column) r v = absurd (omega arith)
-      go (Store row column s) r v = absurd (omega arith)
-      go (PickOne one two) r v = absurd (omega arith)
-      go (PickFrom row n) r v = absurd (omega arith)
-      go (Move from row column) r v = absurd (omega arith)
+      go : {s : Stage} {a : Act} → Aims z (laneAt (t .lanes) j) (lastAt t j) s a → Each (stageIn z (laneAt (t .lanes) j) (lastAt t j) s) → actUrgency z (t .locks) a ≡ 0 → isIdleOp (laneAt (t .lanes) j .op) ≡ true
+      go rests r v = r .0
+      go (takes {k} {g} m) r v = absurd (omega (arith, grab-urges z (lockAt (t .locks) k) k g))
+      go (plain e) r v = absurd (omega (arith, e 0 (λ k g. grabUrgency z (lockAt (t .locks) k) k g) (topUrgency z)))
 
   idle-rests : laneAt (t .lanes) i .stage ≡ Idle → urgency z t i ≡ 0
   unfolding actAt
@@ -123,36 +72,29 @@ module _ (z : Sizes) (t : Table) (st : Stood z t) where
         go true e = absurd (u (idle-rests (idle-stage z (laneAt (t .lanes) i) (lastAt t i) (ranges z t st i chosen-lane) e)))
         go false e = refl
 
-    -- what its first step leaves
-    abbrev left : ℕ
-    left = weight z (laneAt (afterStep z t i 0 .lanes) i)
-
-    -- a step that takes no lock
-    plain : left + 1 ≤ weight z (laneAt (t .lanes) i) → Paid z t i 1
-    plain f = record { some = omega arith; ran = one-step z t st i chosen-lane chosen-busy 1 0 (omega arith) }
-
     -- a lock that is free
     grabs : (k : ℕ) (g : Grab) → k < z .locks + 1 → nextAct z t i ≡ Try k g → Paid z t i (grabTurns (lockAt (t .locks) k) g)
     grabs k g hk e =
         let p : Pays g (lockAt (t .locks) k) = pays-turn g (lockAt (t .locks) k) (clear z t st k hk g e) in
-        let r : _ = run-tries (p .script) z t st i chosen-lane chosen-busy k hk e refl in
+        let r : _ = run-tries (p .script) z t st i chosen-lane chosen-busy k e refl in
         record {
           some = turns-some (lockAt (t .locks) k) g;
           ran = record { accepted = r .accepted; stood = r .stood; there = r .there; falls = omega (arith, r .falls, p .pays) };
         }
 
     pub turn-pays : Paid z t i (actTurns (t .locks) (nextAct z t i))
-    turn-pays = go (nextAct z t i) refl (acts i chosen-lane) (taken-falls z t st i chosen-lane chosen-busy)
+    turn-pays = go (nextAct z t i) refl (aims z (laneAt (t .lanes) i) (lastAt t i) (laneAt (t .lanes) i .stage)) (taken-falls z t st i chosen-lane chosen-busy)
       where
         tried : Tried
         tried = perform z (nextAct z t i) 0 (memoryOf t) .seen .tried
 
-        go : (a : Act) → nextAct z t i ≡ a → Acting z fits (laneAt (t .lanes) i) (lastAt t i) a → left + spent a ≤ weight z (laneAt (t .lanes) i) + owed a tried → Paid z t i (actTurns (t .locks) a)
-        go Rest e r f = absurd (u (ap (actUrgency z (t .locks)) e))
-        go (Try k g) e r f = grabs k g r e
-        go (Release k mode tail) e r f = plain (omega arith)
-        go (Look row column) e r f = plain (omega arith)
-        go (Store row column s) e r f = plain (omega arith)
-        go (PickOne one two) e r f = plain (omega arith)
-        go (PickFrom row n) e r f = plain (omega arith)
-        go (Move from row column) e r f = plain (omega arith)
+        go : {s : Stage} (a : Act) → nextAct z t i ≡ a → Aims z (laneAt (t .lanes) i) (lastAt t i) s a
+            → weight z (laneAt (afterStep z t i 0 .lanes) i) + spent a ≤ weight z (laneAt (t .lanes) i) + owed a tried → Paid z t i (actTurns (t .locks) a)
+        go a e rests f = absurd (u (ap (actUrgency z (t .locks)) e))
+        go a e (takes {k} {g} m) f = grabs k g (takes-in fits m) e
+        go a e (plain p) f =
+            rw (p 1 (λ k g. grabTurns (lockAt (t .locks) k) g) 1)
+            record {
+              some = omega arith;
+              ran = one-step z t st i chosen-lane chosen-busy 1 0 (omega (arith, p 0 (λ k g. grabWeight g) 1, p 0 (λ k g. triedWeight tried) 0));
+            }

@@ -39,7 +39,7 @@ module _ (z : Sizes) (k a : ℕ) (la : a < z .locks) (h : rankOf z a ≤ rankOf 
 
 -- ---- the urgency of a grab
 
--- some
+-- every grab has some
 pub grab-urges : (z : Sizes) (w : Lock) (k : ℕ) (g : Grab) → 1 ≤ grabUrgency z w k g
 grab-urges z w k R1 = omega arith
 grab-urges z w k (R2 noted) = go (eqb noted (w .count))
@@ -54,7 +54,6 @@ grab-urges z w k W2 = omega arith
 
 -- a grab that is no more urgent than one that waits at rank r is at a lock that ranks no higher, and counts for nothing;
 -- and if that one waits at the same lock and has not set its flag, it has not either
-
 pub grab-rank : (z : Sizes) (w : Lock) (a r : ℕ) (g : Grab) → r ≤ z .locks → grabUrgency z w a g ≤ 2 * r + 2 → rankOf z a ≤ r
 grab-rank z w a r R1 h u = omega arith
 grab-rank z w a r (R2 noted) h u = go (eqb noted (w .count)) u

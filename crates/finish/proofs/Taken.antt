@@ -9,6 +9,7 @@ use native.Mathlib.Omega.{arith}
 use borrow.Author.Tests.{lt-ltb}
 use Rattle.lists.proofs.Below.{Each}
 use Rattle.places.specs.declared.Sizes.{Sizes}
+use Rattle.places.proofs.Limits.{ok-fits}
 use Rattle.locks.specs.declared.Grab.{Grab}
 use Rattle.locks.specs.declared.Tried.{Tried}
 use Rattle.locks.specs.declared.Tried.the-variants.{Waits}
@@ -16,16 +17,13 @@ use Rattle.locks.specs.Locks.{lockAt, tryLock}
 use Rattle.locks.proofs.Views.{lock-same}
 use Rattle.paths.specs.declared.Place.{Place}
 use Rattle.paths.specs.Path.{lastOf}
-use Rattle.lanes.specs.declared.Stage.{Stage}
-use Rattle.lanes.specs.declared.Stage.the-variants.{Idle, TakeMain, TakeFirst, SeekFirst, TakeSecond, SeekSecond, RoomFirst, RoomSecond, WriteHit, WriteRoom, Pick, DropFirst, DropSecond, DropMain, TakeNext, LookNext, PickNext, DropNext, TakeLow, TakeHigh, Swing, DropLow, DropHigh}
 use Rattle.lanes.specs.declared.Lane.{Lane}
 use Rattle.lanes.specs.declared.Act.{Act}
-use Rattle.lanes.specs.declared.Act.the-variants.{Rest, Try, Release, Look, Store, PickOne, PickFrom, Move}
-use Rattle.lanes.specs.declared.Seen.{Seen}
+use Rattle.lanes.specs.declared.Act.the-variants.{Try}
 use Rattle.lanes.specs.declared.Answer.{Answer}
 use Rattle.lanes.specs.declared.Answer.the-variants.{GoesOn, ReadNone, ReadValue, Deleted, InsertYes, InsertSearched, InsertWalked}
 use Rattle.lanes.specs.Lane.{laneAt, withLane}
-use Rattle.lanes.specs.Steps.{pathLength, actAt, actOf, perform, advanceAt, advance, Performed, stepLane}
+use Rattle.lanes.specs.Steps.{pathLength, actOf, perform, advance, Performed, stepLane}
 use Rattle.lanes.specs.Claims.{isIdleOp, laneIn}
 use Rattle.lanes.proofs.Numbers.{lane-same, lane-other}
 use Rattle.desk.specs.Standing.{Table, lastAt}
@@ -37,54 +35,8 @@ use Rattle.lanes.proofs.Ways.{goes}
 use Rattle.kept.proofs.Kept.{step-is, kept-step}
 use Rattle.finish.specs.Weight.{weight}
 use Rattle.finish.specs.Schedule.{nextAct}
+use Rattle.finish.proofs.Aims.{Takes, taking, takes-in, Same, takes-on}
 use Rattle.finish.proofs.Falls.{spent, owed, falls}
-
--- ---- a lane that still waits: the same lock, the grab that the lock answered, the same operation and places
-
-record Same (z : Sizes) (last : Place) (k : ℕ) (g : Grab) (l l′ : Lane) : Type 0 where
-  act : actOf z l′ last ≡ Try k g
-  op : l′ .op ≡ l .op
-  path : pathLength (l′ .stage) ≡ pathLength (l .stage)
-
-module _ (z : Sizes) (l : Lane) (last : Place) (seen : Seen) where
-  abbrev at : Stage → Lane
-  at s = record { op = l .op; key = l .key; value = l .value; stage = s }
-
-  abbrev Stays : Stage → Act → Type 0
-  Stays s Rest = Unit {0}
-  Stays s (Try k g) = (g′ : Grab) → seen .tried ≡ Waits g′ → Same z last k g′ (at s) (advanceAt z l last seen s .lane)
-  Stays s (Release k mode tail) = Unit {0}
-  Stays s (Look row column) = Unit {0}
-  Stays s (Store row column x) = Unit {0}
-  Stays s (PickOne one two) = Unit {0}
-  Stays s (PickFrom row i) = Unit {0}
-  Stays s (Move from row column) = Unit {0}
-
-  stays : (s : Stage) → Stays s (actAt z l last s)
-  unfolding actAt advanceAt
-  stays Idle = tt
-  stays (TakeMain g) = λ g′ e. rw e record { act = refl; op = refl; path = refl }
-  stays (TakeFirst g) = λ g′ e. rw e record { act = refl; op = refl; path = refl }
-  stays (SeekFirst c) = tt
-  stays (TakeSecond g) = λ g′ e. rw e record { act = refl; op = refl; path = refl }
-  stays (SeekSecond c) = tt
-  stays (RoomFirst c) = tt
-  stays (RoomSecond c) = tt
-  stays (WriteHit side c) = tt
-  stays (WriteRoom side c) = tt
-  stays Pick = tt
-  stays (DropFirst o) = tt
-  stays (DropSecond o) = tt
-  stays (DropMain e) = tt
-  stays (TakeNext g t) = λ g′ e. rw e record { act = refl; op = refl; path = refl }
-  stays (LookNext c t) = tt
-  stays (PickNext t) = tt
-  stays (DropNext f t) = tt
-  stays (TakeLow g w) = λ g′ e. rw e record { act = refl; op = refl; path = refl }
-  stays (TakeHigh g w) = λ g′ e. rw e record { act = refl; op = refl; path = refl }
-  stays (Swing w) = tt
-  stays (DropLow w) = tt
-  stays (DropHigh w) = tt
 
 answer-taken : (a : Answer) → answerNumbers a .number ≡ 0
 answer-taken GoesOn = refl
@@ -135,7 +87,10 @@ module _ (z : Sizes) (t : Table) (st : Stood z t) (i : ℕ) (hi : i < z .lanes) 
   taken-falls = rw taken-here (falls z l (lastAt t i) (done .seen) (l .stage) _ (ranges z t st i hi .1 .1) (goes z l (lastAt t i) (done .seen) (l .stage)))
 
   -- at a grab: the lock's answer, its words, and the grab that goes on
-  module _ (k : ℕ) (g : Grab) (hk : k < z .locks + 1) (e : nextAct z t i ≡ Try k g) where
+  module _ (k : ℕ) (g : Grab) (e : nextAct z t i ≡ Try k g) where
+    lock-taken : Takes z l (lastAt t i) (l .stage) k g
+    lock-taken = taking z l (lastAt t i) (l .stage) e
+
     pub tried-answer : done .seen .tried ≡ tryLock g (lockAt (t .locks) k) .tried
     unfolding perform
     tried-answer = rw e refl
@@ -147,7 +102,7 @@ module _ (z : Sizes) (t : Table) (st : Stood z t) (i : ℕ) (hi : i < z .lanes) 
 
     stored : lockAt (perform z (Try k g) 0 (memoryOf t) .memory .locks) k ≡ tryLock g (lockAt (t .locks) k) .lock
     unfolding perform
-    stored = lock-same (t .locks) k (tryLock g (lockAt (t .locks) k) .lock) (omega (arith, lengths-of z t (st .lengths) .locks))
+    stored = lock-same (t .locks) k (tryLock g (lockAt (t .locks) k) .lock) (omega (arith, lengths-of z t (st .lengths) .locks, takes-in (ok-fits z (st .sizes)) lock-taken))
 
     pub tried-lock : lockAt (t′ .locks) k ≡ tryLock g (lockAt (t .locks) k) .lock
     tried-lock = ap (λ (u : Table). lockAt (u .locks) k) after ∙ ap (λ (a : Act). lockAt (perform z a 0 (memoryOf t) .memory .locks) k) e ∙ stored
@@ -160,8 +115,8 @@ module _ (z : Sizes) (t : Table) (st : Stood z t) (i : ℕ) (hi : i < z .lanes) 
     tried-path = ap (λ (u : Table). u .path) after ∙ ap (λ (a : Act). perform z a 0 (memoryOf t) .memory .path) e ∙ path-kept
 
     module _ (g′ : Grab) (w : tryLock g (lockAt (t .locks) k) .tried ≡ Waits g′) where
-      same : Same z (lastAt t i) k g′ l l′
-      same = subst (λ (a : Act). Stays z l (lastAt t i) (done .seen) (l .stage) a) e (stays z l (lastAt t i) (done .seen) (l .stage)) g′ (tried-answer ∙ w)
+      same : Same z l (lastAt t i) (l .stage) k g′ l′
+      same = takes-on lock-taken (done .seen) g′ (tried-answer ∙ w)
 
       last-same : lastAt t′ i ≡ lastAt t i
       last-same =

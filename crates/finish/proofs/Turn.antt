@@ -29,21 +29,22 @@ pub record Ran (z : Sizes) (t : Table) (i n a b : ℕ) : Type 0 where
   pub there : (j : ℕ) → j ≢ i → laneAt (afterAll z t (alone n i) .lanes) j ≡ laneAt (t .lanes) j
   pub falls : weight z (laneAt (afterAll z t (alone n i) .lanes) i) + a ≤ weight z (laneAt (t .lanes) i) + b
 
+-- one step
 pub one-step : (z : Sizes) (t : Table) → Stood z t → (i : ℕ) → i < z .lanes → isIdleOp (laneAt (t .lanes) i .op) ≡ false → (a b : ℕ) → weight z (laneAt (afterStep z t i 0 .lanes) i) + a ≤ weight z (laneAt (t .lanes) i) + b → Ran z t i 1 a b
 one-step z t st i hi busy a b f = record { accepted = (taken z t st i hi busy, tt); stood = taken-stood z t st i hi busy; there = taken-there z t st i hi busy; falls = f }
 
-pub run-tries : {g : Grab} {w : Lock} {n x : ℕ} → Tries g w n x → (z : Sizes) (t : Table) → Stood z t → (i : ℕ) → i < z .lanes → isIdleOp (laneAt (t .lanes) i .op) ≡ false → (k : ℕ) → k < z .locks + 1 → nextAct z t i ≡ Try k g → lockAt (t .locks) k ≡ w → Ran z t i n (grabWeight g) x
-run-tries (last {g} {r} e) z t st i hi busy k hk a q =
-    one-step z t st i hi busy (grabWeight g) (triedWeight r) (omega (arith, tried-falls z t st i hi busy k g hk a, ap triedWeight (ap (λ (v : Lock). tryLock g v .tried) q ∙ e)))
-run-tries (then {g} {g′} e s) z t st i hi busy k hk a q =
+-- the steps of a grab
+pub run-tries : {g : Grab} {w : Lock} {n x : ℕ} → Tries g w n x → (z : Sizes) (t : Table) → Stood z t → (i : ℕ) → i < z .lanes → isIdleOp (laneAt (t .lanes) i .op) ≡ false → (k : ℕ) → nextAct z t i ≡ Try k g → lockAt (t .locks) k ≡ w → Ran z t i n (grabWeight g) x
+run-tries (last {g} {r} e) z t st i hi busy k a q =
+    one-step z t st i hi busy (grabWeight g) (triedWeight r) (omega (arith, tried-falls z t st i hi busy k g a, ap triedWeight (ap (λ (v : Lock). tryLock g v .tried) q ∙ e)))
+run-tries (then {g} {g′} e s) z t st i hi busy k a q =
     let answer : _ = ap (λ (v : Lock). tryLock g v .tried) q ∙ ap (λ (x : Attempt). x .tried) e in
-    let word : _ = tried-lock z t st i hi busy k g hk a ∙ ap (λ (v : Lock). tryLock g v .lock) q ∙ ap (λ (x : Attempt). x .lock) e in
-    let more : _ =
-    run-tries s z (afterStep z t i 0) (taken-stood z t st i hi busy) i hi (waits-busy z t st i hi busy k g hk a g′ answer) k hk
-    (waits-act z t st i hi busy k g hk a g′ answer) word in
+    let word : _ = tried-lock z t st i hi busy k g a ∙ ap (λ (v : Lock). tryLock g v .lock) q ∙ ap (λ (x : Attempt). x .lock) e in
+    let act : _ = waits-act z t st i hi busy k g a g′ answer in
+    let more : _ = run-tries s z (afterStep z t i 0) (taken-stood z t st i hi busy) i hi (waits-busy z t st i hi busy k g a g′ answer) k act word in
     record {
       accepted = (taken z t st i hi busy, more .accepted);
       stood = more .stood;
       there = λ j d. more .there j d ∙ taken-there z t st i hi busy j d;
-      falls = omega (arith, tried-falls z t st i hi busy k g hk a, ap triedWeight answer, more .falls);
+      falls = omega (arith, tried-falls z t st i hi busy k g a, ap triedWeight answer, more .falls);
     }

@@ -1,4 +1,4 @@
--- A schedule that ends every operation: which lane goes next, and for how many steps.
+-- A schedule that ends every operation, as a function that can be run: which lane goes next, and for how many steps.
 -- Assumes nothing.
 use mathlib.Core.List.{List, [], _++_}
 use mathlib.Core.Bool.{cond}
@@ -44,26 +44,23 @@ grabTurns w R4 = 1
 grabTurns w W1 = 1
 grabTurns w W2 = 1
 
+-- a number for an act: of one that rests, of one that takes a lock, of any other
+abbrev pub onAct : Act → ℕ → (ℕ → Grab → ℕ) → ℕ → ℕ
+onAct Rest rest taking other = rest
+onAct (Try k g) rest taking other = taking k g
+onAct (Release k mode tail) rest taking other = other
+onAct (Look row column) rest taking other = other
+onAct (Store row column s) rest taking other = other
+onAct (PickOne one two) rest taking other = other
+onAct (PickFrom row i) rest taking other = other
+onAct (Move from row column) rest taking other = other
+
 -- 0 for an idle lane; a lane that takes no lock comes before all that wait for one
 abbrev pub actUrgency : Sizes → List ℕ → Act → ℕ
-actUrgency z ls Rest = 0
-actUrgency z ls (Try k g) = grabUrgency z (lockAt ls k) k g
-actUrgency z ls (Release k mode tail) = topUrgency z
-actUrgency z ls (Look row column) = topUrgency z
-actUrgency z ls (Store row column s) = topUrgency z
-actUrgency z ls (PickOne one two) = topUrgency z
-actUrgency z ls (PickFrom row i) = topUrgency z
-actUrgency z ls (Move from row column) = topUrgency z
+actUrgency z ls a = onAct a 0 (λ k g. grabUrgency z (lockAt ls k) k g) (topUrgency z)
 
 abbrev pub actTurns : List ℕ → Act → ℕ
-actTurns ls Rest = 1
-actTurns ls (Try k g) = grabTurns (lockAt ls k) g
-actTurns ls (Release k mode tail) = 1
-actTurns ls (Look row column) = 1
-actTurns ls (Store row column s) = 1
-actTurns ls (PickOne one two) = 1
-actTurns ls (PickFrom row i) = 1
-actTurns ls (Move from row column) = 1
+actTurns ls a = onAct a 1 (λ k g. grabTurns (lockAt ls k) g) 1
 
 -- the act of a lane's next step
 abbrev pub nextAct : Sizes → Table → ℕ → Act

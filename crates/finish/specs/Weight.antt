@@ -1,4 +1,5 @@
 -- The weight of a lane: a number that its steps use up, whatever the slots hold. From the end backwards, each stage weighs more than what may follow.
+-- No promise rests on these numbers, only the proof.
 -- Assumes nothing.
 use Prim.Native.Nat.{ℕ, _+_, _-_, _*_}
 use Rattle.places.specs.declared.Sizes.{Sizes}
