@@ -132,7 +132,7 @@ module _ (z : Sizes) (f : Fits z) (v v′ : ℕ → Slot) (w : ℕ → Lock) (σ
   slots-kept (DropNext x t) e r h p d g = quiet d
   slots-kept (TakeLow a u) e r h p d g = quiet d
   slots-kept (TakeHigh a u) e r h p d g = quiet d
-  slots-kept (Swing u) e r h p (skips same) g = quiet same
+  slots-kept (Swing u) e r h p (skips stayed same) g = quiet same
   slots-kept (Swing u) e r h p (moves v₁ full room t s) g =
       record {
         sound = swing-moved z f v v′ (st .sound) (lastFor π (σ i)) u v₁ facts row lc full room t s .sound;

@@ -17,7 +17,7 @@ use Rattle.lanes.specs.Steps.{swung}
 
 pub data Swaps (z : Sizes) (v v′ : ℕ → Slot) (last : Place) (w : Walk) : Type 0 where
   moves : (v₁ : ℕ → Slot) → holds (v (slotIndex z (last .row) (last .column))) (last .key) ≡ true → isEmpty (v (slotIndex z (w .row) (w .column))) ≡ true → Sets v v₁ (slotIndex z (last .row) (last .column)) emptySlot → Sets v₁ v′ (slotIndex z (w .row) (w .column)) (v (slotIndex z (last .row) (last .column))) → Swaps z v v′ last w
-  skips : ((j : ℕ) → v′ j ≡ v j) → Swaps z v v′ last w
+  skips : holds (v (slotIndex z (last .row) (last .column))) (last .key) && isEmpty (v (slotIndex z (w .row) (w .column))) ≡ false → ((j : ℕ) → v′ j ≡ v j) → Swaps z v v′ last w
 
 pub swap-slots : (z : Sizes) (xs : List ℕ) (last : Place) (w : Walk) → length xs ≡ slotCount z * 3 → slotIndex z (last .row) (last .column) < slotCount z → slotIndex z (w .row) (w .column) < slotCount z → Swaps z (slotAt xs) (slotAt (swung z xs last (w .row) (w .column))) last w
 swap-slots z xs last w e a b = go (holds (slotAt xs i) (last .key)) (isEmpty (slotAt xs j)) refl refl
@@ -32,5 +32,5 @@ swap-slots z xs last w e a b = go (holds (slotAt xs i) (last .key)) (isEmpty (sl
     go true true h k =
         moves (slotAt (withSlot xs i emptySlot)) h k (store-sets xs i emptySlot (omega arith))
         (store-sets (withSlot xs i emptySlot) j (slotAt xs i) (omega (arith, slot-length xs i emptySlot)))
-    go true false h k = skips (λ m. refl)
-    go false q h k = skips (λ m. refl)
+    go true false h k = skips (rw (h, k)) (λ m. refl)
+    go false q h k = skips (rw h) (λ m. refl)

@@ -126,7 +126,7 @@ module _ (z : Sizes) (f : Fits z) (v v′ : ℕ → Slot) (sv : SoundSlots z v) 
   binds-at (DropNext a t) r h p d = quiet d
   binds-at (TakeLow g w) r h p d = quiet d
   binds-at (TakeHigh g w) r h p d = quiet d
-  binds-at (Swing w) r h p (skips same) = quiet same
+  binds-at (Swing w) r h p (skips stayed same) = quiet same
   binds-at (Swing w) r h p (moves v₁ full room t s) =
       λ i k. swing-moved z f v v′ sv last w v₁ (p (λ q. omega (arith, leb-true 1 (w .places) (r .1 .0)))) (eqb-true (w .row) (otherRow z last) (r .1 .1 .1 .1 .0)) (ltb-true (w .column) (z .columns) (r .1 .1 .1 .0)) full room t s .same k i
   binds-at (DropLow w) r h p d = quiet d
