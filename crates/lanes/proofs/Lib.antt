@@ -2,6 +2,7 @@ pub mod Numbers
 pub mod Claimed
 pub mod Ops
 pub mod Ways
+pub mod Swaps
 pub mod Follows
 pub mod Route
 pub mod Frame
@@ -11,5 +12,4 @@ pub mod Shift
 pub mod Guards
 pub mod Single
 pub mod Picks
-pub mod Swaps
 pub mod Own
