@@ -65,7 +65,7 @@ asked (AskRead key) = read key
 asked (AskDelete key) = delete key
 asked (AskInsert key value) = insert key value
 
--- the operation that a lane runs
+-- the operation that a lane runs; of an idle lane nobody asks
 abbrev pub opIn : LaneOp → ℕ → ℕ → Op
 opIn NoOp key value = read key
 opIn Read key value = read key
