@@ -11,11 +11,11 @@ use Rattle.slots.specs.Slot.{slotAt, withSlot, holds}
 use Rattle.slots.specs.Sound.{badShape, strays, standsBelow, faultOf, isFaulty, sound, openingFault}
 use Rattle.locks.specs.Locks.{lockAt, withLock, tryLock, released}
 use Rattle.paths.specs.Path.{placeAt, withPlace, emptied, lastOf, otherRow}
-use Rattle.lanes.specs.Claims.{gripAt, claimsAt}
-use Rattle.lanes.specs.Lane.{numbersOf, laneAt, withLane, decodes}
-use Rattle.lanes.specs.Steps.{actAt, perform, advanceAt, stepLane}
-use Rattle.desk.specs.Desk.{lengthsOk, opened, openingNumber, afterOpening, startAnswer, started, afterStart, turned, stepAnswer, afterStep}
-use Rattle.desk.specs.Standing.{lockStands, placeStands, linked, unused, pathStands, rowStands, slotStands, laneStands, standing}
+use Rattle.machine.specs.Claims.{gripAt, claimsAt}
+use Rattle.machine.specs.Lane.{numbersOf, laneAt, withLane, decodes}
+use Rattle.machine.specs.Steps.{actAt, perform, advanceAt, stepLane}
+use Rattle.machine.specs.Desk.{lengthsOk, opened, openingNumber, afterOpening, startAnswer, started, afterStart, turned, stepAnswer, afterStep}
+use Rattle.machine.specs.Standing.{lockStands, placeStands, linked, unused, pathStands, rowStands, slotStands, laneStands, standing}
 use Rattle.cases.specs.Cases.{cases, passes, runAlone}
 
 pub all-cases : allOf (map passes cases) ≡ true

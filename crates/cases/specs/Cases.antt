@@ -9,12 +9,12 @@ use Rattle.lists.specs.Below.{allOf, allBelow}
 use Rattle.places.specs.declared.Sizes.{Sizes}
 use Rattle.places.specs.Table.{homeOne, homeTwo, slotCount}
 use Rattle.paths.specs.Path.{pathPlaces}
-use Rattle.lanes.specs.declared.Stage.{Stage}
-use Rattle.lanes.specs.Lane.{laneNumbers, stageWords, laneAt}
-use Rattle.desk.specs.declared.Request.{Request}
-use Rattle.desk.specs.declared.Request.the-variants.{AskRead, AskDelete, AskInsert}
-use Rattle.desk.specs.Standing.{Table}
-use Rattle.desk.specs.Desk.{afterOpening, startAnswer, startNumber, afterStart, stepAnswer, stepNumbers, StepNumbers, afterStep}
+use Rattle.machine.specs.declared.Stage.{Stage}
+use Rattle.machine.specs.Lane.{laneNumbers, stageWords, laneAt}
+use Rattle.machine.specs.declared.Request.{Request}
+use Rattle.machine.specs.declared.Request.the-variants.{AskRead, AskDelete, AskInsert}
+use Rattle.machine.specs.Standing.{Table}
+use Rattle.machine.specs.Desk.{afterOpening, startAnswer, startNumber, afterStart, stepAnswer, stepNumbers, StepNumbers, afterStep}
 
 -- ---- a lane run alone
 

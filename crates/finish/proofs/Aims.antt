@@ -10,16 +10,16 @@ use Rattle.locks.specs.declared.Grab.{Grab}
 use Rattle.locks.specs.declared.Tried.the-variants.{Waits}
 use Rattle.paths.specs.declared.Place.{Place}
 use Rattle.paths.specs.Path.{otherRow}
-use Rattle.lanes.specs.declared.Side.the-variants.{First, Second}
-use Rattle.lanes.specs.declared.Trail.{Trail}
-use Rattle.lanes.specs.declared.Walk.{Walk}
-use Rattle.lanes.specs.declared.Stage.{Stage}
-use Rattle.lanes.specs.declared.Stage.the-variants.{Idle, TakeMain, TakeFirst, SeekFirst, TakeSecond, SeekSecond, RoomFirst, RoomSecond, WriteHit, WriteRoom, Pick, DropFirst, DropSecond, DropMain, TakeNext, LookNext, PickNext, DropNext, TakeLow, TakeHigh, Swing, DropLow, DropHigh}
-use Rattle.lanes.specs.declared.Lane.{Lane}
-use Rattle.lanes.specs.declared.Act.{Act}
-use Rattle.lanes.specs.declared.Act.the-variants.{Rest, Try}
-use Rattle.lanes.specs.declared.Seen.{Seen}
-use Rattle.lanes.specs.Steps.{mainLock, pathLength, rowOn, swingRows, actAt, actOf, advanceAt}
+use Rattle.machine.specs.declared.Side.the-variants.{First, Second}
+use Rattle.machine.specs.declared.Trail.{Trail}
+use Rattle.machine.specs.declared.Walk.{Walk}
+use Rattle.machine.specs.declared.Stage.{Stage}
+use Rattle.machine.specs.declared.Stage.the-variants.{Idle, TakeMain, TakeFirst, SeekFirst, TakeSecond, SeekSecond, RoomFirst, RoomSecond, WriteHit, WriteRoom, Pick, DropFirst, DropSecond, DropMain, TakeNext, LookNext, PickNext, DropNext, TakeLow, TakeHigh, Swing, DropLow, DropHigh}
+use Rattle.machine.specs.declared.Lane.{Lane}
+use Rattle.machine.specs.declared.Act.{Act}
+use Rattle.machine.specs.declared.Act.the-variants.{Rest, Try}
+use Rattle.machine.specs.declared.Seen.{Seen}
+use Rattle.machine.specs.Steps.{mainLock, pathLength, rowOn, swingRows, actAt, actOf, advanceAt}
 use Rattle.finish.specs.Schedule.{onAct}
 
 -- a stage at which lock k is taken, with its grab

@@ -11,7 +11,7 @@ use borrow.Author.Tests.{leb-true, le-leb}
 use Rattle.lists.specs.Below.{allBelow, firstBelow}
 use Rattle.lists.proofs.Below.{all-at, all-from, any-none, first-stop, Sought, found, nowhere, seek}
 use Rattle.places.specs.declared.Sizes.{Sizes}
-use Rattle.desk.specs.Standing.{Table}
+use Rattle.machine.specs.Standing.{Table}
 use Rattle.finish.specs.Schedule.{urgency, chosen}
 
 -- a number below n at which f is greatest

@@ -10,17 +10,17 @@ use Rattle.places.specs.declared.Sizes.{Sizes}
 use Rattle.locks.specs.declared.Part.{Part}
 use Rattle.locks.specs.Locks.{lockAt, partFlag, partCount}
 use Rattle.paths.specs.Path.{pathPlaces, placeAt, noPlace}
-use Rattle.lanes.specs.declared.Lane.{Lane}
-use Rattle.lanes.specs.Lane.{laneAt, idleLane}
-use Rattle.lanes.specs.Steps.{pathLength}
-use Rattle.lanes.specs.Claims.{isIdleOp}
-use Rattle.desk.specs.Standing.{Table, lastAt}
-use Rattle.desk.specs.Desk.{stepAnswer, stepNumbers, afterStep}
+use Rattle.machine.specs.declared.Lane.{Lane}
+use Rattle.machine.specs.Lane.{laneAt, idleLane}
+use Rattle.machine.specs.Steps.{pathLength}
+use Rattle.machine.specs.Claims.{isIdleOp}
+use Rattle.machine.specs.Standing.{Table, lastAt}
+use Rattle.machine.specs.Desk.{stepAnswer, stepNumbers, afterStep}
 use Rattle.kept.specs.Runs.{Stood}
 use Rattle.kept.proofs.Facts.{parts, used}
 use Rattle.kept.proofs.Checked.{StandsIn, standing-facts}
 use Rattle.kept.proofs.Fresh.{idle-share}
-use Rattle.lanes.proofs.Shift.{Measure, flag-measure, count-measure}
+use Rattle.machine.proofs.Shift.{Measure, flag-measure, count-measure}
 use Rattle.kept.proofs.Starting.{idle-lane}
 use Rattle.finish.specs.Finish.{afterAll, isBusy}
 use Rattle.finish.specs.Weight.{weight}

@@ -15,13 +15,13 @@ use Rattle.slots.specs.Sound.{badShape, strays, standsBelow, faultOf, isFaulty,
 use Rattle.locks.specs.declared.Grab.the-variants.{R4, W1, W2}
 use Rattle.locks.specs.Locks.{lockAt, withLock, tryLock, released}
 use Rattle.paths.specs.Path.{placeAt, withPlace, emptied, lastOf, otherRow}
-use Rattle.lanes.specs.declared.Stage.the-variants.{TakeMain, TakeFirst}
-use Rattle.lanes.specs.Claims.{gripAt, claimsAt}
-use Rattle.lanes.specs.Lane.{numbersOf, laneAt, withLane, decodes}
-use Rattle.lanes.specs.Steps.{actAt, perform, advanceAt, stepLane}
-use Rattle.desk.specs.declared.Request.the-variants.{AskRead, AskInsert}
-use Rattle.desk.specs.Standing.{Table, lockStands, placeStands, linked, unused, pathStands, rowStands, slotStands, laneStands, standing}
-use Rattle.desk.specs.Desk.{lengthsOk, opened, openingNumber, afterOpening, startAnswer, startNumber, started, afterStart, turned, stepAnswer, afterStep}
+use Rattle.machine.specs.declared.Stage.the-variants.{TakeMain, TakeFirst}
+use Rattle.machine.specs.Claims.{gripAt, claimsAt}
+use Rattle.machine.specs.Lane.{numbersOf, laneAt, withLane, decodes}
+use Rattle.machine.specs.Steps.{actAt, perform, advanceAt, stepLane}
+use Rattle.machine.specs.declared.Request.the-variants.{AskRead, AskInsert}
+use Rattle.machine.specs.Standing.{Table, lockStands, placeStands, linked, unused, pathStands, rowStands, slotStands, laneStands, standing}
+use Rattle.machine.specs.Desk.{lengthsOk, opened, openingNumber, afterOpening, startAnswer, startNumber, started, afterStart, turned, stepAnswer, afterStep}
 use Rattle.kept.specs.Runs.{Reached, by-opening, by-start, by-step}
 use Rattle.finish.specs.Finish.{Call, afterAll, Accepted, unfinished, stepBound}
 use Rattle.finish.specs.Schedule.{chosen, turns, scheduleFor}

@@ -13,17 +13,17 @@ use Rattle.locks.specs.declared.Mode.the-variants.{Reading, Writing}
 use Rattle.locks.specs.declared.Tried.{Tried}
 use Rattle.locks.specs.Locks.{grabOf}
 use Rattle.paths.specs.declared.Place.{Place}
-use Rattle.lanes.specs.declared.Op.{Op}
-use Rattle.lanes.specs.declared.Op.the-variants.{NoOp, Read, Delete, Insert, Again}
-use Rattle.lanes.specs.declared.Outcome.{Outcome}
-use Rattle.lanes.specs.declared.Stage.{Stage}
-use Rattle.lanes.specs.declared.Lane.{Lane}
-use Rattle.lanes.specs.declared.Act.{Act}
-use Rattle.lanes.specs.declared.Seen.{Seen}
-use Rattle.lanes.specs.declared.Moved.{Moved}
-use Rattle.lanes.specs.Steps.{modeOf, actAt}
-use Rattle.lanes.specs.Claims.{isFirstPass, outcomeIn, stageIn}
-use Rattle.lanes.proofs.Ways.{Leaves, leaves-hit, leaves-ended, leaves-wrote, leaves-filled, leaves-miss, leaves-picked, leaves-stuck, Swings, swings-again, swings-on, Goes, rests, main-waits, main-held, first-waits, first-held, first-read, first-hit, first-more, first-shared, first-apart, second-waits, second-held, second-read, second-hit, second-more, second-miss, second-room, room-first, room-first-more, room-first-full, room-second, room-second-more, room-pick, room-stuck, wrote-hit, wrote-room, picked-first, drops-on, drops-one, drops-two, drops-main, next-waits, next-held, next-free, next-more, next-full, next-picked, next-walk, next-over, next-again, low-waits, low-shared, low-apart, high-waits, high-held, swings, drops-low, drops-both, drops-high}
+use Rattle.machine.specs.declared.Op.{Op}
+use Rattle.machine.specs.declared.Op.the-variants.{NoOp, Read, Delete, Insert, Again}
+use Rattle.machine.specs.declared.Outcome.{Outcome}
+use Rattle.machine.specs.declared.Stage.{Stage}
+use Rattle.machine.specs.declared.Lane.{Lane}
+use Rattle.machine.specs.declared.Act.{Act}
+use Rattle.machine.specs.declared.Seen.{Seen}
+use Rattle.machine.specs.declared.Moved.{Moved}
+use Rattle.machine.specs.Steps.{modeOf, actAt}
+use Rattle.machine.specs.Claims.{isFirstPass, outcomeIn, stageIn}
+use Rattle.machine.proofs.Ways.{Leaves, leaves-hit, leaves-ended, leaves-wrote, leaves-filled, leaves-miss, leaves-picked, leaves-stuck, Swings, swings-again, swings-on, Goes, rests, main-waits, main-held, first-waits, first-held, first-read, first-hit, first-more, first-shared, first-apart, second-waits, second-held, second-read, second-hit, second-more, second-miss, second-room, room-first, room-first-more, room-first-full, room-second, room-second-more, room-pick, room-stuck, wrote-hit, wrote-room, picked-first, drops-on, drops-one, drops-two, drops-main, next-waits, next-held, next-free, next-more, next-full, next-picked, next-walk, next-over, next-again, low-waits, low-shared, low-apart, high-waits, high-held, swings, drops-low, drops-both, drops-high}
 use Rattle.finish.specs.Weight.{grabWeight, triedWeight, walkWeight, searchWeight, laterWeight, stageWeight, weight}
 use Rattle.finish.specs.Schedule.{onAct}
 use Rattle.finish.proofs.Search.{search-next, search-walk}

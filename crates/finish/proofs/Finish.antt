@@ -13,10 +13,10 @@ use borrow.Author.Tests.{eq-eqb, ne-eqb}
 use Rattle.lists.specs.Below.{bit, sumBelow}
 use Rattle.lists.proofs.Sums.{sum-change, sum-le, count-le}
 use Rattle.places.specs.declared.Sizes.{Sizes}
-use Rattle.lanes.specs.Lane.{laneAt}
-use Rattle.lanes.specs.Claims.{isIdleOp}
-use Rattle.desk.specs.Standing.{Table, lastAt}
-use Rattle.desk.specs.Desk.{afterStep}
+use Rattle.machine.specs.Lane.{laneAt}
+use Rattle.machine.specs.Claims.{isIdleOp}
+use Rattle.machine.specs.Standing.{Table, lastAt}
+use Rattle.machine.specs.Desk.{afterStep}
 use Rattle.kept.specs.Runs.{Reached, Stood}
 use Rattle.kept.proofs.Kept.{kept}
 use Rattle.finish.specs.Finish.{Call, afterAll, Accepted, timesOf, isBusy, unfinished, stepBound, Finishes}

@@ -12,9 +12,9 @@ use Rattle.locks.specs.declared.Grab.{Grab}
 use Rattle.locks.specs.declared.Grab.the-variants.{R1, R2, R3, R4, W1, W2}
 use Rattle.locks.specs.Locks.{lockAt}
 use Rattle.paths.specs.Path.{lastOf}
-use Rattle.lanes.specs.declared.Act.the-variants.{Try}
-use Rattle.lanes.specs.Lane.{laneAt}
-use Rattle.desk.specs.Standing.{Table, lastAt}
+use Rattle.machine.specs.declared.Act.the-variants.{Try}
+use Rattle.machine.specs.Lane.{laneAt}
+use Rattle.machine.specs.Standing.{Table, lastAt}
 use Rattle.kept.specs.Runs.{Stood}
 use Rattle.kept.proofs.Checked.{StandsIn, standing-facts}
 use Rattle.finish.specs.Schedule.{rankOf, actUrgency, nextAct, urgency, chosen}

@@ -11,13 +11,13 @@ use Rattle.places.specs.declared.Sizes.{Sizes}
 use Rattle.locks.specs.declared.Grab.{Grab}
 use Rattle.locks.specs.declared.Grab.the-variants.{R1, R2, R3, R4, W1, W2}
 use Rattle.paths.specs.declared.Place.{Place}
-use Rattle.lanes.specs.declared.Op.{Op}
-use Rattle.lanes.specs.declared.Op.the-variants.{NoOp, Read, Delete, Insert, Again}
-use Rattle.lanes.specs.declared.Found.the-variants.{Room, Full}
-use Rattle.lanes.specs.declared.Stage.{Stage}
-use Rattle.lanes.specs.declared.Stage.the-variants.{Idle, TakeMain, TakeFirst, SeekFirst, TakeSecond, SeekSecond, RoomFirst, RoomSecond, WriteHit, WriteRoom, Pick, DropFirst, DropSecond, DropMain, TakeNext, LookNext, PickNext, DropNext, TakeLow, TakeHigh, Swing, DropLow, DropHigh}
-use Rattle.lanes.specs.declared.Lane.{Lane}
-use Rattle.lanes.specs.Claims.{isIdleOp, stageIn, laneIn}
+use Rattle.machine.specs.declared.Op.{Op}
+use Rattle.machine.specs.declared.Op.the-variants.{NoOp, Read, Delete, Insert, Again}
+use Rattle.machine.specs.declared.Found.the-variants.{Room, Full}
+use Rattle.machine.specs.declared.Stage.{Stage}
+use Rattle.machine.specs.declared.Stage.the-variants.{Idle, TakeMain, TakeFirst, SeekFirst, TakeSecond, SeekSecond, RoomFirst, RoomSecond, WriteHit, WriteRoom, Pick, DropFirst, DropSecond, DropMain, TakeNext, LookNext, PickNext, DropNext, TakeLow, TakeHigh, Swing, DropLow, DropHigh}
+use Rattle.machine.specs.declared.Lane.{Lane}
+use Rattle.machine.specs.Claims.{isIdleOp, stageIn, laneIn}
 use Rattle.kept.proofs.Starting.{idle-stage}
 use Rattle.finish.specs.Finish.{stepBound}
 use Rattle.finish.specs.Weight.{grabWeight, searchWeight, laterWeight, stageWeight, weight}

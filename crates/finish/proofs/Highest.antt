@@ -19,16 +19,16 @@ use Rattle.locks.specs.declared.Part.the-variants.{NoPart, Tries, Holds}
 use Rattle.locks.specs.Locks.{lockAt, grabFlag, partFlag, partCount}
 use Rattle.paths.specs.declared.Place.{Place}
 use Rattle.paths.specs.Path.{otherRow}
-use Rattle.lanes.specs.declared.Op.{Op}
-use Rattle.lanes.specs.declared.Op.the-variants.{NoOp, Read, Delete, Insert, Again}
-use Rattle.lanes.specs.declared.Side.the-variants.{First, Second}
-use Rattle.lanes.specs.declared.Stage.{Stage}
-use Rattle.lanes.specs.declared.Stage.the-variants.{Idle}
-use Rattle.lanes.specs.declared.Lane.{Lane}
-use Rattle.lanes.specs.declared.Act.{Act}
-use Rattle.lanes.specs.Steps.{mainLock, modeOf, rowOn, sharedRows, swingRows, actAt}
-use Rattle.lanes.specs.Claims.{isIdleOp, mainPart, onLock, share, gripAt, stageIn}
-use Rattle.lanes.proofs.Shift.{Measure, none-at, flag-measure, count-measure}
+use Rattle.machine.specs.declared.Op.{Op}
+use Rattle.machine.specs.declared.Op.the-variants.{NoOp, Read, Delete, Insert, Again}
+use Rattle.machine.specs.declared.Side.the-variants.{First, Second}
+use Rattle.machine.specs.declared.Stage.{Stage}
+use Rattle.machine.specs.declared.Stage.the-variants.{Idle}
+use Rattle.machine.specs.declared.Lane.{Lane}
+use Rattle.machine.specs.declared.Act.{Act}
+use Rattle.machine.specs.Steps.{mainLock, modeOf, rowOn, sharedRows, swingRows, actAt}
+use Rattle.machine.specs.Claims.{isIdleOp, mainPart, onLock, share, gripAt, stageIn}
+use Rattle.machine.proofs.Shift.{Measure, none-at, flag-measure, count-measure}
 use Rattle.finish.specs.Schedule.{rankOf, topUrgency, grabUrgency, actUrgency}
 use Rattle.finish.proofs.Aims.{Takes, at-main, at-first, at-second, at-next, at-low, at-high, Aims, rests, takes, plain, aims}
 use Rattle.finish.proofs.Ranks.{rank-most, not-main, not-below, grab-rank, grab-count, grab-flag}

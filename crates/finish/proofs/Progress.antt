@@ -12,15 +12,15 @@ use Rattle.places.proofs.Limits.{ok-fits}
 use Rattle.locks.specs.declared.Grab.{Grab}
 use Rattle.locks.specs.declared.Tried.{Tried}
 use Rattle.locks.specs.Locks.{lockAt}
-use Rattle.lanes.specs.declared.Stage.{Stage}
-use Rattle.lanes.specs.declared.Stage.the-variants.{Idle}
-use Rattle.lanes.specs.declared.Act.{Act}
-use Rattle.lanes.specs.declared.Act.the-variants.{Try}
-use Rattle.lanes.specs.Lane.{laneAt}
-use Rattle.lanes.specs.Steps.{actAt, perform}
-use Rattle.lanes.specs.Claims.{isIdleOp, stageIn}
-use Rattle.desk.specs.Standing.{Table, lastAt}
-use Rattle.desk.specs.Desk.{memoryOf, afterStep}
+use Rattle.machine.specs.declared.Stage.{Stage}
+use Rattle.machine.specs.declared.Stage.the-variants.{Idle}
+use Rattle.machine.specs.declared.Act.{Act}
+use Rattle.machine.specs.declared.Act.the-variants.{Try}
+use Rattle.machine.specs.Lane.{laneAt}
+use Rattle.machine.specs.Steps.{actAt, perform}
+use Rattle.machine.specs.Claims.{isIdleOp, stageIn}
+use Rattle.machine.specs.Standing.{Table, lastAt}
+use Rattle.machine.specs.Desk.{memoryOf, afterStep}
 use Rattle.kept.specs.Runs.{Stood}
 use Rattle.kept.proofs.Starting.{idle-stage}
 use Rattle.finish.specs.Weight.{grabWeight, triedWeight, weight}

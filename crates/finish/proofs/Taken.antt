@@ -17,21 +17,21 @@ use Rattle.locks.specs.Locks.{lockAt, tryLock}
 use Rattle.locks.proofs.Views.{lock-same}
 use Rattle.paths.specs.declared.Place.{Place}
 use Rattle.paths.specs.Path.{lastOf}
-use Rattle.lanes.specs.declared.Lane.{Lane}
-use Rattle.lanes.specs.declared.Act.{Act}
-use Rattle.lanes.specs.declared.Act.the-variants.{Try}
-use Rattle.lanes.specs.declared.Answer.{Answer}
-use Rattle.lanes.specs.declared.Answer.the-variants.{GoesOn, ReadNone, ReadValue, Deleted, InsertYes, InsertSearched, InsertWalked}
-use Rattle.lanes.specs.Lane.{laneAt, withLane}
-use Rattle.lanes.specs.Steps.{pathLength, actOf, perform, advance, Performed, stepLane}
-use Rattle.lanes.specs.Claims.{isIdleOp, laneIn}
-use Rattle.lanes.proofs.Numbers.{lane-same, lane-other}
-use Rattle.desk.specs.Standing.{Table, lastAt}
-use Rattle.desk.specs.Desk.{memoryOf, turned, stepAnswer, stepNumbers, answerNumbers, afterStep}
+use Rattle.machine.specs.declared.Lane.{Lane}
+use Rattle.machine.specs.declared.Act.{Act}
+use Rattle.machine.specs.declared.Act.the-variants.{Try}
+use Rattle.machine.specs.declared.Answer.{Answer}
+use Rattle.machine.specs.declared.Answer.the-variants.{GoesOn, ReadNone, ReadValue, Deleted, InsertYes, InsertSearched, InsertWalked}
+use Rattle.machine.specs.Lane.{laneAt, withLane}
+use Rattle.machine.specs.Steps.{pathLength, actOf, perform, advance, Performed, stepLane}
+use Rattle.machine.specs.Claims.{isIdleOp, laneIn}
+use Rattle.machine.proofs.Numbers.{lane-same, lane-other}
+use Rattle.machine.specs.Standing.{Table, lastAt}
+use Rattle.machine.specs.Desk.{memoryOf, turned, stepAnswer, stepNumbers, answerNumbers, afterStep}
 use Rattle.kept.specs.Runs.{Stood}
 use Rattle.kept.proofs.Checked.{standing-facts}
 use Rattle.kept.proofs.Long.{lengths-of, lanes-of}
-use Rattle.lanes.proofs.Ways.{goes}
+use Rattle.machine.proofs.Ways.{goes}
 use Rattle.kept.proofs.Kept.{step-is, kept-step}
 use Rattle.finish.specs.Weight.{weight}
 use Rattle.finish.specs.Schedule.{nextAct}

@@ -10,11 +10,11 @@ use Rattle.locks.specs.declared.Lock.{Lock}
 use Rattle.locks.specs.declared.Grab.{Grab}
 use Rattle.locks.specs.declared.Attempt.{Attempt}
 use Rattle.locks.specs.Locks.{lockAt, tryLock}
-use Rattle.lanes.specs.declared.Act.the-variants.{Try}
-use Rattle.lanes.specs.Lane.{laneAt}
-use Rattle.lanes.specs.Claims.{isIdleOp}
-use Rattle.desk.specs.Standing.{Table}
-use Rattle.desk.specs.Desk.{afterStep}
+use Rattle.machine.specs.declared.Act.the-variants.{Try}
+use Rattle.machine.specs.Lane.{laneAt}
+use Rattle.machine.specs.Claims.{isIdleOp}
+use Rattle.machine.specs.Standing.{Table}
+use Rattle.machine.specs.Desk.{afterStep}
 use Rattle.kept.specs.Runs.{Stood}
 use Rattle.finish.specs.Finish.{afterAll, Accepted}
 use Rattle.finish.specs.Weight.{grabWeight, triedWeight, weight}

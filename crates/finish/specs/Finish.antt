@@ -8,10 +8,10 @@ use lib.Dec.{eqb}
 use lib.ListN.{length}
 use Rattle.lists.specs.Below.{bit, countBelow}
 use Rattle.places.specs.declared.Sizes.{Sizes}
-use Rattle.lanes.specs.Lane.{laneAt}
-use Rattle.lanes.specs.Claims.{isIdleOp}
-use Rattle.desk.specs.Standing.{Table}
-use Rattle.desk.specs.Desk.{stepAnswer, stepNumbers, afterStep}
+use Rattle.machine.specs.Lane.{laneAt}
+use Rattle.machine.specs.Claims.{isIdleOp}
+use Rattle.machine.specs.Standing.{Table}
+use Rattle.machine.specs.Desk.{stepAnswer, stepNumbers, afterStep}
 
 -- a step to take: "a scheduler who names a lane and hands over one byte"
 pub record Call : Type 0 where

@@ -11,11 +11,11 @@ use Rattle.locks.specs.declared.Lock.{Lock}
 use Rattle.locks.specs.declared.Grab.{Grab}
 use Rattle.locks.specs.declared.Grab.the-variants.{R1, R2, R3, R4, W1, W2}
 use Rattle.locks.specs.Locks.{lockAt}
-use Rattle.lanes.specs.declared.Act.{Act}
-use Rattle.lanes.specs.declared.Act.the-variants.{Rest, Try, Release, Look, Store, PickOne, PickFrom, Move}
-use Rattle.lanes.specs.Lane.{laneAt}
-use Rattle.lanes.specs.Steps.{mainLock, actOf}
-use Rattle.desk.specs.Standing.{Table, lastAt}
+use Rattle.machine.specs.declared.Act.{Act}
+use Rattle.machine.specs.declared.Act.the-variants.{Rest, Try, Release, Look, Store, PickOne, PickFrom, Move}
+use Rattle.machine.specs.Lane.{laneAt}
+use Rattle.machine.specs.Steps.{mainLock, actOf}
+use Rattle.machine.specs.Standing.{Table, lastAt}
 use Rattle.finish.specs.Finish.{Call, afterAll, stepBound}
 
 -- the order in which a lane takes its locks: main, then row locks by number

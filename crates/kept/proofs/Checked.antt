@@ -20,14 +20,14 @@ use Rattle.locks.specs.Locks.{lockAt, partFlag, partCount, partWrites, partRead
 use Rattle.locks.proofs.Grabs.{Counts}
 use Rattle.paths.specs.declared.Place.{Place}
 use Rattle.paths.specs.Path.{pathPlaces, placeAt, noPlace, lastOf}
-use Rattle.lanes.specs.declared.RowClaim.{RowClaim}
-use Rattle.lanes.specs.declared.SlotClaim.{SlotClaim}
-use Rattle.lanes.specs.declared.SlotClaim.the-variants.{NoClaim, HasKey, HasPair, HasRoom}
-use Rattle.lanes.specs.declared.Claims.{Claims}
-use Rattle.lanes.specs.Lane.{laneAt, decodes}
-use Rattle.lanes.specs.Claims.{laneIn, claimsOf}
-use Rattle.desk.specs.Standing.{Table, lastAt, partsIn, lockStands, placeStands, linked, unused, pathUsed, pathStands, rowStands, slotStands, claimTests, laneStands, standing}
-use Rattle.lanes.proofs.Claimed.{RowClaimed, SlotClaimed, Claimed}
+use Rattle.machine.specs.declared.RowClaim.{RowClaim}
+use Rattle.machine.specs.declared.SlotClaim.{SlotClaim}
+use Rattle.machine.specs.declared.SlotClaim.the-variants.{NoClaim, HasKey, HasPair, HasRoom}
+use Rattle.machine.specs.declared.Claims.{Claims}
+use Rattle.machine.specs.Lane.{laneAt, decodes}
+use Rattle.machine.specs.Claims.{laneIn, claimsOf}
+use Rattle.machine.specs.Standing.{Table, lastAt, partsIn, lockStands, placeStands, linked, unused, pathUsed, pathStands, rowStands, slotStands, claimTests, laneStands, standing}
+use Rattle.machine.proofs.Claimed.{RowClaimed, SlotClaimed, Claimed}
 use Rattle.kept.proofs.Facts.{PlaceFacts, PathFacts, Stands}
 
 -- the facts of the standing check, of a table

@@ -17,13 +17,13 @@ use Rattle.locks.specs.declared.Grab.{Grab}
 use Rattle.locks.specs.declared.Part.the-variants.{NoPart, Tries, Holds}
 use Rattle.paths.specs.declared.Place.{Place}
 use Rattle.paths.specs.Path.{otherRow}
-use Rattle.lanes.specs.declared.Side.{Side}
-use Rattle.lanes.specs.declared.Side.the-variants.{First, Second}
-use Rattle.lanes.specs.declared.Stage.{Stage}
-use Rattle.lanes.specs.declared.Stage.the-variants.{Idle, TakeMain, TakeFirst, SeekFirst, TakeSecond, SeekSecond, RoomFirst, RoomSecond, WriteHit, WriteRoom, Pick, DropFirst, DropSecond, DropMain, TakeNext, LookNext, PickNext, DropNext, TakeLow, TakeHigh, Swing, DropLow, DropHigh}
-use Rattle.lanes.specs.declared.Lane.{Lane}
-use Rattle.lanes.specs.Steps.{pathLength, mainLock, modeOf, rowOn, swingRows, soughtRow}
-use Rattle.lanes.specs.Claims.{stageIn}
+use Rattle.machine.specs.declared.Side.{Side}
+use Rattle.machine.specs.declared.Side.the-variants.{First, Second}
+use Rattle.machine.specs.declared.Stage.{Stage}
+use Rattle.machine.specs.declared.Stage.the-variants.{Idle, TakeMain, TakeFirst, SeekFirst, TakeSecond, SeekSecond, RoomFirst, RoomSecond, WriteHit, WriteRoom, Pick, DropFirst, DropSecond, DropMain, TakeNext, LookNext, PickNext, DropNext, TakeLow, TakeHigh, Swing, DropLow, DropHigh}
+use Rattle.machine.specs.declared.Lane.{Lane}
+use Rattle.machine.specs.Steps.{pathLength, mainLock, modeOf, rowOn, swingRows, soughtRow}
+use Rattle.machine.specs.Claims.{stageIn}
 use Prim.Native.Nat.{_*_}
 use lib.ListN.{length}
 use mathlib.Core.List.{List}
@@ -33,11 +33,11 @@ use Rattle.slots.proofs.Views.{Sets, store-sets}
 use Rattle.locks.specs.Locks.{lockAt, withLock, tryLock, released}
 use Rattle.locks.proofs.Views.{lock-same, lock-other}
 use Rattle.locks.proofs.Grabs.{grabMode, partAfter}
-use Rattle.lanes.specs.Steps.{Memory, Performed, actAt, perform, written}
-use Rattle.lanes.proofs.Shift.{Touch, touch, untouched, touchAt}
+use Rattle.machine.specs.Steps.{Memory, Performed, actAt, perform, written}
+use Rattle.machine.proofs.Shift.{Touch, touch, untouched, touchAt}
 use Rattle.kept.proofs.Words.{Turned, same-word, tried-word, freed-word}
-use Rattle.lanes.proofs.Grabbing.{grab-mode}
-use Rattle.lanes.proofs.Swaps.{Swaps, swap-slots}
+use Rattle.machine.proofs.Grabbing.{grab-mode}
+use Rattle.machine.proofs.Swaps.{Swaps, swap-slots}
 use Rattle.kept.proofs.Facts.{PlaceFacts}
 use Rattle.kept.proofs.Long.{Lengths}
 use Rattle.paths.proofs.Other.{other-in}

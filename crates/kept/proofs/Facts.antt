@@ -17,10 +17,10 @@ use Rattle.locks.proofs.Grabs.{Counts}
 use Rattle.locks.specs.Locks.{partFlag, partCount, partWrites, partReads}
 use Rattle.paths.specs.declared.Place.{Place}
 use Rattle.paths.specs.Path.{noPlace, otherRow}
-use Rattle.lanes.specs.declared.Lane.{Lane}
-use Rattle.lanes.proofs.Claimed.{Claimed}
-use Rattle.lanes.specs.Steps.{pathLength}
-use Rattle.lanes.specs.Claims.{laneIn, gripOf, share, claimsOf}
+use Rattle.machine.specs.declared.Lane.{Lane}
+use Rattle.machine.proofs.Claimed.{Claimed}
+use Rattle.machine.specs.Steps.{pathLength}
+use Rattle.machine.specs.Claims.{laneIn, gripOf, share, claimsOf}
 
 -- ---- the path
 

@@ -11,16 +11,16 @@ use Rattle.slots.specs.declared.Slot.{Slot}
 use Rattle.locks.specs.declared.Mode.the-variants.{Reading, Writing}
 use Rattle.locks.specs.declared.Part.{Part}
 use Rattle.paths.specs.declared.Place.{Place}
-use Rattle.lanes.specs.declared.Side.the-variants.{First, Second}
-use Rattle.lanes.specs.Lane.{idleLane}
-use Rattle.lanes.specs.Steps.{mainLock, rowOn, pathLength}
-use Rattle.lanes.specs.Claims.{laneIn, gripAt, gripOf, share, claimsAt, claimsOf}
-use Rattle.desk.specs.declared.Request.{Request}
-use Rattle.desk.specs.declared.Request.the-variants.{AskRead, AskDelete, AskInsert}
-use Rattle.desk.specs.Desk.{keyOf, begun}
-use Rattle.lanes.proofs.Claimed.{Claimed}
-use Rattle.lanes.proofs.Shift.{Measure, none-at, fresh-at}
-use Rattle.lanes.proofs.Own.{no-claims}
+use Rattle.machine.specs.declared.Side.the-variants.{First, Second}
+use Rattle.machine.specs.Lane.{idleLane}
+use Rattle.machine.specs.Steps.{mainLock, rowOn, pathLength}
+use Rattle.machine.specs.Claims.{laneIn, gripAt, gripOf, share, claimsAt, claimsOf}
+use Rattle.machine.specs.declared.Request.{Request}
+use Rattle.machine.specs.declared.Request.the-variants.{AskRead, AskDelete, AskInsert}
+use Rattle.machine.specs.Desk.{keyOf, begun}
+use Rattle.machine.proofs.Claimed.{Claimed}
+use Rattle.machine.proofs.Shift.{Measure, none-at, fresh-at}
+use Rattle.machine.proofs.Own.{no-claims}
 
 -- ---- shares
 

@@ -10,17 +10,17 @@ use borrow.Author.Tests.{eq-eqb, ltb-true}
 use Rattle.places.specs.declared.Sizes.{Sizes}
 use Rattle.places.specs.Table.{sizesOk}
 use Rattle.places.proofs.Limits.{ok-fits}
-use Rattle.lanes.specs.Lane.{laneAt}
-use Rattle.lanes.specs.Steps.{actOf, stepLane}
-use Rattle.lanes.specs.Claims.{isIdleOp}
-use Rattle.lanes.proofs.Numbers.{lane-other, lane-length}
+use Rattle.machine.specs.Lane.{laneAt}
+use Rattle.machine.specs.Steps.{actOf, stepLane}
+use Rattle.machine.specs.Claims.{isIdleOp}
+use Rattle.machine.proofs.Numbers.{lane-other, lane-length}
 use Rattle.paths.specs.Path.{lastOf}
-use Rattle.desk.specs.declared.Started.{Started}
-use Rattle.desk.specs.declared.Started.the-variants.{StartAccepted, StartBadSizes, StartBadLengths, StartNotStanding, StartNoLane, StartBusy, StartBadKey}
-use Rattle.desk.specs.declared.Stepped.the-variants.{StepDone, StepBadSizes, StepBadLengths, StepNotStanding, StepNoLane, StepIdle}
-use Rattle.desk.specs.declared.Request.{Request}
-use Rattle.desk.specs.Standing.{Table, standing}
-use Rattle.desk.specs.Desk.{lengthsOk, openingNumber, afterOpening, startAnswer, startNumber, afterStart, memoryOf, turned, stepAnswer, stepNumbers, afterStep}
+use Rattle.machine.specs.declared.Started.{Started}
+use Rattle.machine.specs.declared.Started.the-variants.{StartAccepted, StartBadSizes, StartBadLengths, StartNotStanding, StartNoLane, StartBusy, StartBadKey}
+use Rattle.machine.specs.declared.Stepped.the-variants.{StepDone, StepBadSizes, StepBadLengths, StepNotStanding, StepNoLane, StepIdle}
+use Rattle.machine.specs.declared.Request.{Request}
+use Rattle.machine.specs.Standing.{Table, standing}
+use Rattle.machine.specs.Desk.{lengthsOk, openingNumber, afterOpening, startAnswer, startNumber, afterStart, memoryOf, turned, stepAnswer, stepNumbers, afterStep}
 use Rattle.kept.specs.Runs.{Reached, by-opening, by-start, by-step, Stood}
 use Rattle.kept.proofs.Long.{lengths-of, lanes-of, lengths-ok, act-lengths}
 use Rattle.kept.proofs.Checked.{Standing, standing-facts, facts-standing}

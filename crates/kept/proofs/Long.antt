@@ -16,14 +16,14 @@ use Rattle.locks.proofs.Views.{lock-length}
 use Rattle.paths.specs.declared.Place.{Place}
 use Rattle.paths.specs.Path.{pathPlaces, noPlace}
 use Rattle.paths.proofs.Views.{place-length, emptied-length}
-use Rattle.lanes.specs.declared.Act.{Act}
-use Rattle.lanes.specs.declared.Act.the-variants.{Rest, Try, Release, Look, Store, PickOne, PickFrom, Move}
-use Rattle.lanes.specs.declared.Tail.{Tail}
-use Rattle.lanes.specs.declared.Tail.the-variants.{Keep, TakeOff, Clear}
-use Rattle.lanes.specs.Lane.{laneNumbers}
-use Rattle.lanes.specs.Steps.{Memory, perform, tailed, swung}
-use Rattle.desk.specs.Standing.{Table}
-use Rattle.desk.specs.Desk.{lengthsOk, memoryOf}
+use Rattle.machine.specs.declared.Act.{Act}
+use Rattle.machine.specs.declared.Act.the-variants.{Rest, Try, Release, Look, Store, PickOne, PickFrom, Move}
+use Rattle.machine.specs.declared.Tail.{Tail}
+use Rattle.machine.specs.declared.Tail.the-variants.{Keep, TakeOff, Clear}
+use Rattle.machine.specs.Lane.{laneNumbers}
+use Rattle.machine.specs.Steps.{Memory, perform, tailed, swung}
+use Rattle.machine.specs.Standing.{Table}
+use Rattle.machine.specs.Desk.{lengthsOk, memoryOf}
 
 pub record Lengths (z : Sizes) (m : Memory) : Type 0 where
   pub slots : length (m .slots) ≡ slotCount z * 3

@@ -23,16 +23,16 @@ use Rattle.locks.proofs.Views.{opened-lock}
 use Rattle.paths.specs.declared.Place.{Place}
 use Rattle.paths.specs.Path.{placeAt, noPlace, emptied}
 use Rattle.paths.proofs.Views.{emptied-at, emptied-length}
-use Rattle.lanes.specs.declared.Lane.{Lane}
-use Rattle.lanes.specs.Lane.{laneAt, decodes, idleLane}
-use Rattle.lanes.specs.Steps.{pathLength}
-use Rattle.lanes.specs.Claims.{laneIn, gripOf, share, claimsOf}
-use Rattle.lanes.proofs.Numbers.{opened-lane, opened-decodes}
-use Rattle.desk.specs.Standing.{Table}
-use Rattle.desk.specs.Desk.{lengthsOk, opened, openingNumber, afterOpening}
-use Rattle.lanes.proofs.Claimed.{Claimed}
+use Rattle.machine.specs.declared.Lane.{Lane}
+use Rattle.machine.specs.Lane.{laneAt, decodes, idleLane}
+use Rattle.machine.specs.Steps.{pathLength}
+use Rattle.machine.specs.Claims.{laneIn, gripOf, share, claimsOf}
+use Rattle.machine.proofs.Numbers.{opened-lane, opened-decodes}
+use Rattle.machine.specs.Standing.{Table}
+use Rattle.machine.specs.Desk.{lengthsOk, opened, openingNumber, afterOpening}
+use Rattle.machine.proofs.Claimed.{Claimed}
 use Rattle.kept.proofs.Facts.{PathFacts, lastFor, parts, used}
-use Rattle.lanes.proofs.Shift.{Measure, flag-measure, count-measure, writes-measure, reads-measure}
+use Rattle.machine.proofs.Shift.{Measure, flag-measure, count-measure, writes-measure, reads-measure}
 use Rattle.kept.proofs.Fresh.{idle-share, idle-range, idle-claims}
 use Rattle.kept.proofs.Checked.{Standing}
 

@@ -20,26 +20,26 @@ use Rattle.locks.specs.declared.Part.the-variants.{NoPart, Tries, Holds}
 use Rattle.locks.proofs.Grabs.{Counts}
 use Rattle.locks.specs.Locks.{partFlag, partCount, partWrites, partReads}
 use Rattle.paths.specs.declared.Place.{Place}
-use Rattle.lanes.specs.declared.Side.{Side}
-use Rattle.lanes.specs.declared.Side.the-variants.{First, Second}
-use Rattle.lanes.specs.declared.Outcome.{Outcome}
-use Rattle.lanes.specs.declared.Outcome.the-variants.{Hit, Wrote, Filled, Miss, Picked, Stuck}
-use Rattle.lanes.specs.declared.Trail.{Trail}
-use Rattle.lanes.specs.declared.Found.{Found}
-use Rattle.lanes.specs.declared.Found.the-variants.{Room, Full}
-use Rattle.lanes.specs.declared.Stage.{Stage}
-use Rattle.lanes.specs.declared.Stage.the-variants.{Idle, TakeMain, TakeFirst, SeekFirst, TakeSecond, SeekSecond, RoomFirst, RoomSecond, WriteHit, WriteRoom, Pick, DropFirst, DropSecond, DropMain, TakeNext, LookNext, PickNext, DropNext, TakeLow, TakeHigh, Swing, DropLow, DropHigh}
-use Rattle.lanes.specs.declared.Lane.{Lane}
-use Rattle.lanes.specs.declared.RowClaim.{RowClaim}
-use Rattle.lanes.specs.declared.SlotClaim.{SlotClaim}
-use Rattle.lanes.specs.declared.SlotClaim.the-variants.{NoClaim, HasKey, HasPair, HasRoom}
-use Rattle.lanes.specs.declared.Claims.{Claims}
-use Rattle.lanes.specs.declared.Grip.{Grip}
-use Rattle.lanes.specs.Steps.{mainLock}
-use Rattle.lanes.specs.Claims.{outcomeIn, foundIn, stageIn, laneIn, gripOf, share, noClaims, dropClaims, lateClaims, roomClaims, foundClaims, claimsAt, claimsOf}
-use Rattle.lanes.proofs.Claimed.{RowClaimed, SlotClaimed, Claimed}
+use Rattle.machine.specs.declared.Side.{Side}
+use Rattle.machine.specs.declared.Side.the-variants.{First, Second}
+use Rattle.machine.specs.declared.Outcome.{Outcome}
+use Rattle.machine.specs.declared.Outcome.the-variants.{Hit, Wrote, Filled, Miss, Picked, Stuck}
+use Rattle.machine.specs.declared.Trail.{Trail}
+use Rattle.machine.specs.declared.Found.{Found}
+use Rattle.machine.specs.declared.Found.the-variants.{Room, Full}
+use Rattle.machine.specs.declared.Stage.{Stage}
+use Rattle.machine.specs.declared.Stage.the-variants.{Idle, TakeMain, TakeFirst, SeekFirst, TakeSecond, SeekSecond, RoomFirst, RoomSecond, WriteHit, WriteRoom, Pick, DropFirst, DropSecond, DropMain, TakeNext, LookNext, PickNext, DropNext, TakeLow, TakeHigh, Swing, DropLow, DropHigh}
+use Rattle.machine.specs.declared.Lane.{Lane}
+use Rattle.machine.specs.declared.RowClaim.{RowClaim}
+use Rattle.machine.specs.declared.SlotClaim.{SlotClaim}
+use Rattle.machine.specs.declared.SlotClaim.the-variants.{NoClaim, HasKey, HasPair, HasRoom}
+use Rattle.machine.specs.declared.Claims.{Claims}
+use Rattle.machine.specs.declared.Grip.{Grip}
+use Rattle.machine.specs.Steps.{mainLock}
+use Rattle.machine.specs.Claims.{outcomeIn, foundIn, stageIn, laneIn, gripOf, share, noClaims, dropClaims, lateClaims, roomClaims, foundClaims, claimsAt, claimsOf}
+use Rattle.machine.proofs.Claimed.{RowClaimed, SlotClaimed, Claimed}
 use Rattle.kept.proofs.Facts.{lastFor, parts}
-use Rattle.lanes.proofs.Guards.{partHolds, RowHeld, ClaimHeld, SlotHeld, guarded-one, guarded-two, guarded-slot}
+use Rattle.machine.proofs.Guards.{partHolds, RowHeld, ClaimHeld, SlotHeld, guarded-one, guarded-two, guarded-slot}
 
 -- ---- a writer is alone
 

@@ -13,8 +13,8 @@ use Rattle.lists.proofs.Sums.{sum-change, sum-none}
 use Rattle.places.specs.declared.Sizes.{Sizes}
 use Rattle.paths.specs.declared.Place.{Place}
 use Rattle.paths.specs.Path.{noPlace, otherRow}
-use Rattle.lanes.specs.declared.Lane.{Lane}
-use Rattle.lanes.specs.Steps.{pathLength}
+use Rattle.machine.specs.declared.Lane.{Lane}
+use Rattle.machine.specs.Steps.{pathLength}
 use Rattle.kept.proofs.Facts.{lastFor, PlaceFacts, PathFacts, used}
 
 -- what a step does to a path of n places, of which n′ are then left; it changes only where Nobody else has places

@@ -14,11 +14,11 @@ use Rattle.slots.specs.declared.Slot.{Slot}
 use Rattle.slots.specs.Slot.{isFull}
 use Rattle.paths.specs.declared.Place.{Place}
 use Rattle.paths.specs.Path.{otherRow}
-use Rattle.lanes.specs.declared.Stage.{Stage}
-use Rattle.lanes.specs.declared.Stage.the-variants.{Idle, TakeMain, TakeFirst, SeekFirst, TakeSecond, SeekSecond, RoomFirst, RoomSecond, WriteHit, WriteRoom, Pick, DropFirst, DropSecond, DropMain, TakeNext, LookNext, PickNext, DropNext, TakeLow, TakeHigh, Swing, DropLow, DropHigh}
-use Rattle.lanes.specs.declared.Lane.{Lane}
-use Rattle.lanes.specs.Steps.{swingRows, pathLength}
-use Rattle.lanes.specs.Claims.{stageIn, claimsAt}
+use Rattle.machine.specs.declared.Stage.{Stage}
+use Rattle.machine.specs.declared.Stage.the-variants.{Idle, TakeMain, TakeFirst, SeekFirst, TakeSecond, SeekSecond, RoomFirst, RoomSecond, WriteHit, WriteRoom, Pick, DropFirst, DropSecond, DropMain, TakeNext, LookNext, PickNext, DropNext, TakeLow, TakeHigh, Swing, DropLow, DropHigh}
+use Rattle.machine.specs.declared.Lane.{Lane}
+use Rattle.machine.specs.Steps.{swingRows, pathLength}
+use Rattle.machine.specs.Claims.{stageIn, claimsAt}
 use Prim.Native.Nat.{_/_, _%_}
 use native.Mathlib.Nat.{mod-lt}
 use Rattle.places.specs.Table.{homeOne, homeTwo}
@@ -30,13 +30,13 @@ use Rattle.slots.proofs.Bindings.{key-range}
 use Rattle.paths.specs.Path.{placeAt, withPlace, noPlace}
 use Rattle.paths.proofs.Views.{place-same, place-other, emptied-at}
 use Rattle.paths.proofs.Other.{other-in}
-use Rattle.lanes.specs.Steps.{Memory, actAt, perform, placeOf, tailed}
-use Rattle.lanes.specs.declared.Tail.the-variants.{Keep, TakeOff}
-use Rattle.lanes.proofs.Claimed.{Claimed}
+use Rattle.machine.specs.Steps.{Memory, actAt, perform, placeOf, tailed}
+use Rattle.machine.specs.declared.Tail.the-variants.{Keep, TakeOff}
+use Rattle.machine.proofs.Claimed.{Claimed}
 use Rattle.kept.proofs.Facts.{lastIn, PlaceFacts}
 use Rattle.kept.proofs.Long.{Lengths}
-use Rattle.lanes.proofs.Follows.{Follows}
-use Rattle.lanes.proofs.Route.{nextLength, changesPath}
+use Rattle.machine.proofs.Follows.{Follows}
+use Rattle.machine.proofs.Route.{nextLength, changesPath}
 use Rattle.kept.proofs.Path.{PathDoes, stays, grows, shrinks, clears}
 use Rattle.kept.proofs.Stores.{at-homes}
 

@@ -13,17 +13,17 @@ use Rattle.slots.specs.declared.Slot.{Slot}
 use Rattle.slots.specs.Slot.{isEmpty, holds}
 use Rattle.paths.specs.declared.Place.{Place}
 use Rattle.paths.specs.Path.{otherRow}
-use Rattle.lanes.specs.declared.Side.{Side}
-use Rattle.lanes.specs.declared.Side.the-variants.{First, Second}
-use Rattle.lanes.specs.declared.Walk.{Walk}
-use Rattle.lanes.specs.declared.Stage.{Stage}
-use Rattle.lanes.specs.declared.Stage.the-variants.{Idle, TakeMain, TakeFirst, SeekFirst, TakeSecond, SeekSecond, RoomFirst, RoomSecond, WriteHit, WriteRoom, Pick, DropFirst, DropSecond, DropMain, TakeNext, LookNext, PickNext, DropNext, TakeLow, TakeHigh, Swing, DropLow, DropHigh}
-use Rattle.lanes.specs.declared.Lane.{Lane}
-use Rattle.lanes.specs.declared.Seen.{Seen}
-use Rattle.lanes.specs.declared.Moved.{Moved}
-use Rattle.lanes.specs.Steps.{rowOn, pathLength}
-use Rattle.lanes.specs.Claims.{laneIn, stageIn, share, gripOf, claimsAt, claimsOf, roomClaims}
-use Rattle.lanes.proofs.Ways.{Goes, wrote-hit, wrote-room, swings}
+use Rattle.machine.specs.declared.Side.{Side}
+use Rattle.machine.specs.declared.Side.the-variants.{First, Second}
+use Rattle.machine.specs.declared.Walk.{Walk}
+use Rattle.machine.specs.declared.Stage.{Stage}
+use Rattle.machine.specs.declared.Stage.the-variants.{Idle, TakeMain, TakeFirst, SeekFirst, TakeSecond, SeekSecond, RoomFirst, RoomSecond, WriteHit, WriteRoom, Pick, DropFirst, DropSecond, DropMain, TakeNext, LookNext, PickNext, DropNext, TakeLow, TakeHigh, Swing, DropLow, DropHigh}
+use Rattle.machine.specs.declared.Lane.{Lane}
+use Rattle.machine.specs.declared.Seen.{Seen}
+use Rattle.machine.specs.declared.Moved.{Moved}
+use Rattle.machine.specs.Steps.{rowOn, pathLength}
+use Rattle.machine.specs.Claims.{laneIn, stageIn, share, gripOf, claimsAt, claimsOf, roomClaims}
+use Rattle.machine.proofs.Ways.{Goes, wrote-hit, wrote-room, swings}
 use Rattle.places.proofs.Locking.{lock-in}
 use Rattle.slots.specs.Slot.{emptySlot, fullSlot}
 use Rattle.slots.proofs.Facts.{SoundSlots}
@@ -31,14 +31,14 @@ use Rattle.slots.proofs.Views.{Sets}
 use Rattle.locks.specs.declared.Lock.{Lock}
 use Rattle.locks.specs.Locks.{partWrites}
 use Rattle.paths.proofs.Other.{other-in}
-use Rattle.lanes.specs.Steps.{written}
-use Rattle.lanes.proofs.Claimed.{Claimed}
+use Rattle.machine.specs.Steps.{written}
+use Rattle.machine.proofs.Claimed.{Claimed}
 use Rattle.kept.proofs.Facts.{lastFor, PlaceFacts, Stands}
-use Rattle.lanes.proofs.Guards.{store-hit, store-room, swing-from, swing-to}
+use Rattle.machine.proofs.Guards.{store-hit, store-room, swing-from, swing-to}
 use Rattle.kept.proofs.Others.{alone}
-use Rattle.lanes.proofs.Own.{no-claims}
+use Rattle.machine.proofs.Own.{no-claims}
 use Rattle.kept.proofs.Stores.{row-in, hit-stored, room-stored, swing-moved, claims-quiet, claims-stored}
-use Rattle.lanes.proofs.Swaps.{moves, skips}
+use Rattle.machine.proofs.Swaps.{moves, skips}
 use Rattle.kept.proofs.Does.{Quiet, SlotsDo}
 
 -- ---- a lane that has written or swung claims nothing

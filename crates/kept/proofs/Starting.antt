@@ -21,27 +21,27 @@ use Rattle.locks.specs.Locks.{partFlag, partCount, partWrites, partReads}
 use Rattle.locks.proofs.Grabs.{Counts}
 use Rattle.paths.specs.declared.Place.{Place}
 use Rattle.paths.specs.Path.{placeAt}
-use Rattle.lanes.specs.declared.Op.{Op}
-use Rattle.lanes.specs.declared.Op.the-variants.{NoOp, Read, Delete, Insert, Again}
-use Rattle.lanes.specs.declared.Outcome.{Outcome}
-use Rattle.lanes.specs.declared.Outcome.the-variants.{Hit, Wrote, Filled, Miss, Picked, Stuck}
-use Rattle.lanes.specs.declared.Ending.{Ending}
-use Rattle.lanes.specs.declared.Ending.the-variants.{Yes, Searched, Walked}
-use Rattle.lanes.specs.declared.Stage.{Stage}
-use Rattle.lanes.specs.declared.Stage.the-variants.{Idle, TakeMain, TakeFirst, SeekFirst, TakeSecond, SeekSecond, RoomFirst, RoomSecond, WriteHit, WriteRoom, Pick, DropFirst, DropSecond, DropMain, TakeNext, LookNext, PickNext, DropNext, TakeLow, TakeHigh, Swing, DropLow, DropHigh}
-use Rattle.lanes.specs.declared.Lane.{Lane}
-use Rattle.lanes.specs.Lane.{laneAt, withLane, decodes, idleLane}
-use Rattle.lanes.specs.Steps.{pathLength}
-use Rattle.lanes.specs.Claims.{isIdleOp, isRead, isInsert, isFirstPass, isSecondPass, onlySeeks, writesHit, outcomeIn, endingIn, stageIn, laneIn, gripOf, share, claimsOf}
-use Rattle.lanes.proofs.Numbers.{lane-same, lane-other, lane-length, decodes-same, decodes-other}
-use Rattle.desk.specs.declared.Started.{Started}
-use Rattle.desk.specs.declared.Started.the-variants.{StartAccepted, StartBadSizes, StartBadLengths, StartNotStanding, StartNoLane, StartBusy, StartBadKey}
-use Rattle.desk.specs.declared.Request.{Request}
-use Rattle.desk.specs.Standing.{Table, standing}
-use Rattle.desk.specs.Desk.{lengthsOk, keyOf, begun, startAnswer, startNumber, started, afterStart}
-use Rattle.lanes.proofs.Claimed.{Claimed}
+use Rattle.machine.specs.declared.Op.{Op}
+use Rattle.machine.specs.declared.Op.the-variants.{NoOp, Read, Delete, Insert, Again}
+use Rattle.machine.specs.declared.Outcome.{Outcome}
+use Rattle.machine.specs.declared.Outcome.the-variants.{Hit, Wrote, Filled, Miss, Picked, Stuck}
+use Rattle.machine.specs.declared.Ending.{Ending}
+use Rattle.machine.specs.declared.Ending.the-variants.{Yes, Searched, Walked}
+use Rattle.machine.specs.declared.Stage.{Stage}
+use Rattle.machine.specs.declared.Stage.the-variants.{Idle, TakeMain, TakeFirst, SeekFirst, TakeSecond, SeekSecond, RoomFirst, RoomSecond, WriteHit, WriteRoom, Pick, DropFirst, DropSecond, DropMain, TakeNext, LookNext, PickNext, DropNext, TakeLow, TakeHigh, Swing, DropLow, DropHigh}
+use Rattle.machine.specs.declared.Lane.{Lane}
+use Rattle.machine.specs.Lane.{laneAt, withLane, decodes, idleLane}
+use Rattle.machine.specs.Steps.{pathLength}
+use Rattle.machine.specs.Claims.{isIdleOp, isRead, isInsert, isFirstPass, isSecondPass, onlySeeks, writesHit, outcomeIn, endingIn, stageIn, laneIn, gripOf, share, claimsOf}
+use Rattle.machine.proofs.Numbers.{lane-same, lane-other, lane-length, decodes-same, decodes-other}
+use Rattle.machine.specs.declared.Started.{Started}
+use Rattle.machine.specs.declared.Started.the-variants.{StartAccepted, StartBadSizes, StartBadLengths, StartNotStanding, StartNoLane, StartBusy, StartBadKey}
+use Rattle.machine.specs.declared.Request.{Request}
+use Rattle.machine.specs.Standing.{Table, standing}
+use Rattle.machine.specs.Desk.{lengthsOk, keyOf, begun, startAnswer, startNumber, started, afterStart}
+use Rattle.machine.proofs.Claimed.{Claimed}
 use Rattle.kept.proofs.Facts.{PathFacts, Stands, lastFor, parts, used}
-use Rattle.lanes.proofs.Shift.{Measure, flag-measure, count-measure, writes-measure, reads-measure}
+use Rattle.machine.proofs.Shift.{Measure, flag-measure, count-measure, writes-measure, reads-measure}
 use Rattle.kept.proofs.Long.{lanes-of}
 use Rattle.kept.proofs.Fresh.{idle-share, begun-share, begun-range, begun-claims, begun-length}
 use Rattle.kept.proofs.Checked.{Standing, standing-facts}

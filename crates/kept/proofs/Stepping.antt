@@ -15,15 +15,15 @@ use Rattle.slots.specs.Slot.{isEmpty, isFull}
 use Rattle.locks.specs.declared.Mode.the-variants.{Reading, Writing}
 use Rattle.paths.specs.declared.Place.{Place}
 use Rattle.paths.specs.Path.{otherRow}
-use Rattle.lanes.specs.declared.Side.the-variants.{First, Second}
-use Rattle.lanes.specs.declared.Stage.{Stage}
-use Rattle.lanes.specs.declared.Stage.the-variants.{Idle, TakeMain, TakeFirst, SeekFirst, TakeSecond, SeekSecond, RoomFirst, RoomSecond, WriteHit, WriteRoom, Pick, DropFirst, DropSecond, DropMain, TakeNext, LookNext, PickNext, DropNext, TakeLow, TakeHigh, Swing, DropLow, DropHigh}
-use Rattle.lanes.specs.declared.Lane.{Lane}
-use Rattle.lanes.specs.declared.Seen.{Seen}
-use Rattle.lanes.specs.declared.Moved.{Moved}
-use Rattle.lanes.specs.Steps.{mainLock, modeOf, rowOn, swingRows, pathLength}
-use Rattle.lanes.specs.Claims.{laneIn, stageIn, gripOf, claimsOf}
-use Rattle.lanes.proofs.Ways.{Goes}
+use Rattle.machine.specs.declared.Side.the-variants.{First, Second}
+use Rattle.machine.specs.declared.Stage.{Stage}
+use Rattle.machine.specs.declared.Stage.the-variants.{Idle, TakeMain, TakeFirst, SeekFirst, TakeSecond, SeekSecond, RoomFirst, RoomSecond, WriteHit, WriteRoom, Pick, DropFirst, DropSecond, DropMain, TakeNext, LookNext, PickNext, DropNext, TakeLow, TakeHigh, Swing, DropLow, DropHigh}
+use Rattle.machine.specs.declared.Lane.{Lane}
+use Rattle.machine.specs.declared.Seen.{Seen}
+use Rattle.machine.specs.declared.Moved.{Moved}
+use Rattle.machine.specs.Steps.{mainLock, modeOf, rowOn, swingRows, pathLength}
+use Rattle.machine.specs.Claims.{laneIn, stageIn, gripOf, claimsOf}
+use Rattle.machine.proofs.Ways.{Goes}
 use native.Mathlib.Decide.{ℕ-discrete}
 use lib.ListN.{length}
 use Prim.Native.Nat.{_*_}
@@ -37,28 +37,28 @@ use Rattle.slots.proofs.Facts.{SoundSlots}
 use Rattle.locks.specs.Locks.{lockAt}
 use Rattle.paths.specs.Path.{placeAt, lastOf}
 use Rattle.paths.proofs.Other.{other-in}
-use Rattle.lanes.specs.Lane.{laneAt, withLane, decodes}
-use Rattle.lanes.specs.Steps.{Memory, actAt, perform, advanceAt, stepLane}
-use Rattle.lanes.proofs.Numbers.{lane-same, lane-other, decodes-same, decodes-other}
-use Rattle.desk.specs.Standing.{Table}
-use Rattle.desk.specs.Desk.{memoryOf, turned}
-use Rattle.lanes.proofs.Claimed.{Claimed}
+use Rattle.machine.specs.Lane.{laneAt, withLane, decodes}
+use Rattle.machine.specs.Steps.{Memory, actAt, perform, advanceAt, stepLane}
+use Rattle.machine.proofs.Numbers.{lane-same, lane-other, decodes-same, decodes-other}
+use Rattle.machine.specs.Standing.{Table}
+use Rattle.machine.specs.Desk.{memoryOf, turned}
+use Rattle.machine.proofs.Claimed.{Claimed}
 use Rattle.kept.proofs.Facts.{lastFor, lastIn, PlaceFacts, used, Stands}
 use Rattle.kept.proofs.Checked.{StandsIn, Standing}
-use Rattle.lanes.proofs.Ways.{goes}
+use Rattle.machine.proofs.Ways.{goes}
 use Rattle.kept.proofs.Others.{alone, share-sum}
-use Rattle.lanes.proofs.Own.{Looks, own-claims}
-use Rattle.lanes.proofs.Grabbing.{waits-fit}
-use Rattle.lanes.proofs.Single.{path-main}
-use Rattle.lanes.proofs.Range.{TryFits, range-kept}
+use Rattle.machine.proofs.Own.{Looks, own-claims}
+use Rattle.machine.proofs.Grabbing.{waits-fit}
+use Rattle.machine.proofs.Single.{path-main}
+use Rattle.machine.proofs.Range.{TryFits, range-kept}
 use Rattle.kept.proofs.Long.{Lengths}
-use Rattle.lanes.proofs.Follows.{Follows}
-use Rattle.lanes.proofs.Shift.{touchAt}
+use Rattle.machine.proofs.Follows.{Follows}
+use Rattle.machine.proofs.Shift.{touchAt}
 use Rattle.kept.proofs.Words.{counts-few, Alone, locks-kept}
 use Rattle.kept.proofs.Path.{PathDoes, Nobody, path-kept, lasts-kept}
 use Rattle.kept.proofs.Stores.{row-in}
 use Rattle.kept.proofs.Does.{LocksDo, locks-do, slots-do}
-use Rattle.lanes.proofs.Route.{nextLength, length-goes, changesPath, main-at}
+use Rattle.machine.proofs.Route.{nextLength, length-goes, changesPath, main-at}
 use Rattle.kept.proofs.Route.{path-do, follows}
 use Rattle.kept.proofs.Slots.{SlotsKept, slots-kept}
 

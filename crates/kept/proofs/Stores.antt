@@ -12,16 +12,16 @@ use Rattle.slots.specs.declared.Slot.{Slot}
 use Rattle.slots.specs.Slot.{isEmpty, holds}
 use Rattle.paths.specs.declared.Place.{Place}
 use Rattle.paths.specs.Path.{otherRow}
-use Rattle.lanes.specs.declared.Op.{Op}
-use Rattle.lanes.specs.declared.Op.the-variants.{NoOp, Read, Delete, Insert, Again}
-use Rattle.lanes.specs.declared.Side.{Side}
-use Rattle.lanes.specs.declared.Side.the-variants.{First, Second}
-use Rattle.lanes.specs.declared.Walk.{Walk}
-use Rattle.lanes.specs.declared.Lane.{Lane}
-use Rattle.lanes.specs.declared.SlotClaim.{SlotClaim}
-use Rattle.lanes.specs.declared.SlotClaim.the-variants.{NoClaim, HasKey, HasPair, HasRoom}
-use Rattle.lanes.specs.Steps.{rowOn}
-use Rattle.lanes.specs.Claims.{writesHit, laneIn, share, gripOf, claimsOf}
+use Rattle.machine.specs.declared.Op.{Op}
+use Rattle.machine.specs.declared.Op.the-variants.{NoOp, Read, Delete, Insert, Again}
+use Rattle.machine.specs.declared.Side.{Side}
+use Rattle.machine.specs.declared.Side.the-variants.{First, Second}
+use Rattle.machine.specs.declared.Walk.{Walk}
+use Rattle.machine.specs.declared.Lane.{Lane}
+use Rattle.machine.specs.declared.SlotClaim.{SlotClaim}
+use Rattle.machine.specs.declared.SlotClaim.the-variants.{NoClaim, HasKey, HasPair, HasRoom}
+use Rattle.machine.specs.Steps.{rowOn}
+use Rattle.machine.specs.Claims.{writesHit, laneIn, share, gripOf, claimsOf}
 use mathlib.Core.Option.{Option, none, some}
 use Rattle.places.specs.Table.{homeOne, homeTwo, slotCount, rowAt}
 use Rattle.places.specs.Locking.{rowsOf}
@@ -34,10 +34,10 @@ use Rattle.slots.proofs.Facts.{SoundSlots, holds-full, holds-key}
 use Rattle.slots.proofs.Bindings.{Stored, Moved as PairMoved, emptied, overwritten, filled, moved}
 use Rattle.slots.proofs.Rows.{Lacks, stands-nowhere}
 use Rattle.paths.proofs.Other.{other-in, other-home}
-use Rattle.lanes.specs.Steps.{written}
-use Rattle.lanes.proofs.Claimed.{Claimed}
+use Rattle.machine.specs.Steps.{written}
+use Rattle.machine.proofs.Claimed.{Claimed}
 use Rattle.kept.proofs.Facts.{PlaceFacts}
-use Rattle.lanes.proofs.Guards.{partHolds}
+use Rattle.machine.proofs.Guards.{partHolds}
 use Rattle.kept.proofs.Others.{SlotAgrees, claimed-same, others-claims, sets-off}
 
 -- ---- the rows of a key

@@ -14,13 +14,13 @@ use Rattle.locks.specs.declared.Grab.{Grab}
 use Rattle.locks.specs.declared.Part.{Part}
 use Rattle.locks.specs.declared.Part.the-variants.{NoPart, Tries, Holds}
 use Rattle.paths.specs.declared.Place.{Place}
-use Rattle.lanes.specs.declared.Lane.{Lane}
-use Rattle.lanes.specs.declared.Seen.{Seen}
-use Rattle.lanes.specs.declared.Moved.{Moved}
-use Rattle.lanes.specs.declared.Grip.{Grip}
-use Rattle.lanes.specs.Steps.{mainLock}
-use Rattle.lanes.specs.Claims.{laneIn, stageIn, onLock, share, gripOf}
-use Rattle.lanes.proofs.Ways.{Goes}
+use Rattle.machine.specs.declared.Lane.{Lane}
+use Rattle.machine.specs.declared.Seen.{Seen}
+use Rattle.machine.specs.declared.Moved.{Moved}
+use Rattle.machine.specs.declared.Grip.{Grip}
+use Rattle.machine.specs.Steps.{mainLock}
+use Rattle.machine.specs.Claims.{laneIn, stageIn, onLock, share, gripOf}
+use Rattle.machine.proofs.Ways.{Goes}
 use Rattle.lists.specs.Below.{sumBelow}
 use Rattle.lists.proofs.Sums.{sum-few, sum-change, sum-at}
 use native.Mathlib.Decide.{ℕ-discrete}
@@ -28,9 +28,9 @@ use Rattle.locks.specs.declared.Lock.{Lock}
 use Rattle.locks.specs.Locks.{tryLock, released, grabFlag, grabCount, modeFlag, modeCount, partFlag, partCount, partWrites, partReads}
 use Rattle.locks.proofs.Grabs.{Counts, grabMode, partAfter, try-counts, release-counts}
 use Rattle.kept.proofs.Facts.{lastFor, parts}
-use Rattle.lanes.proofs.Single.{count-one}
-use Rattle.lanes.proofs.Follows.{Follows}
-use Rattle.lanes.proofs.Shift.{Measure, flag-measure, count-measure, writes-measure, reads-measure, Touch, touchAt, shift, touched}
+use Rattle.machine.proofs.Single.{count-one}
+use Rattle.machine.proofs.Follows.{Follows}
+use Rattle.machine.proofs.Shift.{Measure, flag-measure, count-measure, writes-measure, reads-measure, Touch, touchAt, shift, touched}
 
 -- a part in the flag that does not hold the lock yet, and the same of the count
 abbrev early : Part → ℕ

@@ -5,9 +5,9 @@ use mathlib.Core.Bool.{true}
 use Prim.Native.Nat.{ℕ}
 use Rattle.places.specs.declared.Sizes.{Sizes}
 use Rattle.places.specs.Table.{sizesOk}
-use Rattle.desk.specs.declared.Request.{Request}
-use Rattle.desk.specs.Standing.{Table, standing}
-use Rattle.desk.specs.Desk.{lengthsOk, openingNumber, afterOpening, startAnswer, startNumber, afterStart, stepAnswer, stepNumbers, afterStep}
+use Rattle.machine.specs.declared.Request.{Request}
+use Rattle.machine.specs.Standing.{Table, standing}
+use Rattle.machine.specs.Desk.{lengthsOk, openingNumber, afterOpening, startAnswer, startNumber, afterStart, stepAnswer, stepNumbers, afterStep}
 
 -- an accepted opening, and then accepted starts and steps, with any bytes
 pub data Reached (z : Sizes) : Table → Type 0 where

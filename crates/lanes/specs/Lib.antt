@@ -1,3 +1,1 @@
-pub mod Lane
-pub mod Steps
-pub mod Claims
+pub mod Fitting

@@ -1,4 +1,10 @@
-// A lock word, the steps that take it for reading or writing, and its release. Uses `lists`.
+// A lock word, the steps that take it for reading or writing, its release, and what a lane's part in it adds to it. Uses `lists`.
+mod parts;
+
+pub use parts::part_count;
+pub use parts::part_flag;
+pub use parts::part_reads;
+pub use parts::part_writes;
 ghost use mathlib.Core.Path.{_≡_};
 ghost use Prim.Native.Nat.{_+_, _*_, _≤_, _<_};
 ghost use lib.ListN.{length};

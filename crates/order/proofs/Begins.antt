@@ -8,12 +8,12 @@ use lib.ListN.{length}
 use Rattle.lists.proofs.Products.{row-ends}
 use Rattle.places.specs.declared.Sizes.{Sizes}
 use Rattle.paths.specs.Path.{placeAt, emptied}
-use Rattle.lanes.specs.Lane.{laneAt, withLane, idleLane}
-use Rattle.lanes.proofs.Numbers.{lane-same, lane-other, opened-lane}
-use Rattle.desk.specs.declared.Request.{Request}
-use Rattle.desk.specs.declared.Request.the-variants.{AskRead, AskDelete, AskInsert}
-use Rattle.desk.specs.Standing.{Table}
-use Rattle.desk.specs.Desk.{openingNumber, afterOpening, opened, begun, startAnswer, startNumber, started, afterStart}
+use Rattle.machine.specs.Lane.{laneAt, withLane, idleLane}
+use Rattle.machine.proofs.Numbers.{lane-same, lane-other, opened-lane}
+use Rattle.machine.specs.declared.Request.{Request}
+use Rattle.machine.specs.declared.Request.the-variants.{AskRead, AskDelete, AskInsert}
+use Rattle.machine.specs.Standing.{Table}
+use Rattle.machine.specs.Desk.{openingNumber, afterOpening, opened, begun, startAnswer, startNumber, started, afterStart}
 use Rattle.kept.proofs.Facts.{lastFor}
 use Rattle.kept.proofs.Checked.{standing-facts}
 use Rattle.kept.proofs.Long.{lanes-of}

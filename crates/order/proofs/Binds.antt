@@ -18,17 +18,17 @@ use Rattle.slots.proofs.Facts.{SoundSlots}
 use Rattle.slots.proofs.Bindings.{Rebinds}
 use Rattle.paths.specs.declared.Place.{Place}
 use Rattle.paths.specs.Path.{otherRow}
-use Rattle.lanes.specs.declared.Side.{Side}
-use Rattle.lanes.specs.declared.Side.the-variants.{First, Second}
-use Rattle.lanes.specs.declared.Stage.{Stage}
-use Rattle.lanes.specs.declared.Stage.the-variants.{Idle, TakeMain, TakeFirst, SeekFirst, TakeSecond, SeekSecond, RoomFirst, RoomSecond, WriteHit, WriteRoom, Pick, DropFirst, DropSecond, DropMain, TakeNext, LookNext, PickNext, DropNext, TakeLow, TakeHigh, Swing, DropLow, DropHigh}
-use Rattle.lanes.specs.declared.Lane.{Lane}
-use Rattle.lanes.specs.Steps.{rowOn, pathLength}
-use Rattle.lanes.specs.Claims.{stageIn, claimsAt, roomClaims}
-use Rattle.lanes.proofs.Claimed.{Claimed}
+use Rattle.machine.specs.declared.Side.{Side}
+use Rattle.machine.specs.declared.Side.the-variants.{First, Second}
+use Rattle.machine.specs.declared.Stage.{Stage}
+use Rattle.machine.specs.declared.Stage.the-variants.{Idle, TakeMain, TakeFirst, SeekFirst, TakeSecond, SeekSecond, RoomFirst, RoomSecond, WriteHit, WriteRoom, Pick, DropFirst, DropSecond, DropMain, TakeNext, LookNext, PickNext, DropNext, TakeLow, TakeHigh, Swing, DropLow, DropHigh}
+use Rattle.machine.specs.declared.Lane.{Lane}
+use Rattle.machine.specs.Steps.{rowOn, pathLength}
+use Rattle.machine.specs.Claims.{stageIn, claimsAt, roomClaims}
+use Rattle.machine.proofs.Claimed.{Claimed}
 use Rattle.kept.proofs.Facts.{PlaceFacts}
 use Rattle.kept.proofs.Stores.{bindsTo, hit-stored, room-stored, swing-moved}
-use Rattle.lanes.proofs.Swaps.{moves, skips}
+use Rattle.machine.proofs.Swaps.{moves, skips}
 use Rattle.kept.proofs.Does.{Quiet, SlotsDo}
 use Rattle.linear.specs.Map.{Bindings, binds}
 

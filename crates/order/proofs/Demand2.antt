@@ -14,16 +14,16 @@ use Rattle.lists.proofs.Below.{Each}
 use Rattle.places.specs.declared.Sizes.{Sizes}
 use Rattle.paths.specs.declared.Place.{Place}
 use Rattle.paths.specs.Path.{lastOf}
-use Rattle.lanes.specs.declared.Op.{Op}
-use Rattle.lanes.specs.declared.Op.the-variants.{NoOp, Read, Delete, Insert, Again}
-use Rattle.lanes.specs.declared.Stage.{Stage}
-use Rattle.lanes.specs.declared.Stage.the-variants.{Idle, TakeMain, TakeFirst, SeekFirst, TakeSecond, SeekSecond, RoomFirst, RoomSecond, WriteHit, WriteRoom, Pick, DropFirst, DropSecond, DropMain, TakeNext, LookNext, PickNext, DropNext, TakeLow, TakeHigh, Swing, DropLow, DropHigh}
-use Rattle.lanes.specs.declared.Lane.{Lane}
-use Rattle.lanes.specs.Claims.{isIdleOp, isInsert, writesHit, stageIn}
-use Rattle.desk.specs.declared.Request.{Request}
-use Rattle.desk.specs.declared.Request.the-variants.{AskRead, AskDelete, AskInsert}
-use Rattle.desk.specs.Standing.{Table}
-use Rattle.desk.specs.Desk.{openingNumber, afterOpening, begun, startAnswer, startNumber, stepAnswer, stepNumbers}
+use Rattle.machine.specs.declared.Op.{Op}
+use Rattle.machine.specs.declared.Op.the-variants.{NoOp, Read, Delete, Insert, Again}
+use Rattle.machine.specs.declared.Stage.{Stage}
+use Rattle.machine.specs.declared.Stage.the-variants.{Idle, TakeMain, TakeFirst, SeekFirst, TakeSecond, SeekSecond, RoomFirst, RoomSecond, WriteHit, WriteRoom, Pick, DropFirst, DropSecond, DropMain, TakeNext, LookNext, PickNext, DropNext, TakeLow, TakeHigh, Swing, DropLow, DropHigh}
+use Rattle.machine.specs.declared.Lane.{Lane}
+use Rattle.machine.specs.Claims.{isIdleOp, isInsert, writesHit, stageIn}
+use Rattle.machine.specs.declared.Request.{Request}
+use Rattle.machine.specs.declared.Request.the-variants.{AskRead, AskDelete, AskInsert}
+use Rattle.machine.specs.Standing.{Table}
+use Rattle.machine.specs.Desk.{openingNumber, afterOpening, begun, startAnswer, startNumber, stepAnswer, stepNumbers}
 use Rattle.kept.proofs.Stores.{bindsTo}
 use Rattle.linear.specs.Log.{Op as MapOp, Ans, readNone, readValue, deleted, insertYes, insertSearched, insertWalked}
 use Rattle.linear.specs.Map.{Bindings, binds, after}

@@ -19,12 +19,12 @@ use Rattle.slots.specs.Slot.{slotAt, withSlot, holds}
 use Rattle.slots.specs.Sound.{badShape, strays, standsBelow, faultOf, isFaulty, sound, openingFault}
 use Rattle.locks.specs.Locks.{lockAt, withLock, tryLock, released}
 use Rattle.paths.specs.Path.{placeAt, withPlace, emptied, lastOf, otherRow}
-use Rattle.lanes.specs.Claims.{gripAt, claimsAt}
-use Rattle.lanes.specs.Lane.{laneNumbers, numbersOf, laneAt, withLane, decodes}
-use Rattle.lanes.specs.Steps.{actAt, perform, advanceAt, stepLane}
-use Rattle.desk.specs.declared.Request.the-variants.{AskRead, AskDelete, AskInsert}
-use Rattle.desk.specs.Desk.{lengthsOk, opened, openingNumber, afterOpening, startAnswer, startNumber, started, afterStart, turned, stepAnswer, stepNumbers, afterStep}
-use Rattle.desk.specs.Standing.{Table, lockStands, placeStands, linked, unused, pathStands, rowStands, slotStands, laneStands, standing}
+use Rattle.machine.specs.Claims.{gripAt, claimsAt}
+use Rattle.machine.specs.Lane.{laneNumbers, numbersOf, laneAt, withLane, decodes}
+use Rattle.machine.specs.Steps.{actAt, perform, advanceAt, stepLane}
+use Rattle.machine.specs.declared.Request.the-variants.{AskRead, AskDelete, AskInsert}
+use Rattle.machine.specs.Desk.{lengthsOk, opened, openingNumber, afterOpening, startAnswer, startNumber, started, afterStart, turned, stepAnswer, stepNumbers, afterStep}
+use Rattle.machine.specs.Standing.{Table, lockStands, placeStands, linked, unused, pathStands, rowStands, slotStands, laneStands, standing}
 use Rattle.linear.specs.Log.{read, delete, insert, readValue, deleted, insertSearched, starts, ends}
 use Rattle.linear.specs.Order.{Ordered}
 use Rattle.order.specs.Run.{Event, start, step, next, Run, tableAfter, bindings, logOf, orderOf, owning, endBy}

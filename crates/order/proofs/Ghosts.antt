@@ -5,19 +5,19 @@ use mathlib.Core.Logic.{inl, inr}
 use mathlib.Core.Bool.{Bool, true, false, not, false≢true}
 use mathlib.Core.Option.{none, some}
 use Prim.Native.Nat.{ℕ}
-use Rattle.lanes.specs.declared.Op.{Op}
-use Rattle.lanes.specs.declared.Op.the-variants.{NoOp, Read, Delete, Insert, Again}
-use Rattle.lanes.specs.declared.Outcome.{Outcome}
-use Rattle.lanes.specs.declared.Outcome.the-variants.{Hit, Wrote, Filled, Miss, Picked, Stuck}
-use Rattle.lanes.specs.declared.Ending.{Ending}
-use Rattle.lanes.specs.declared.Ending.the-variants.{Yes, Searched, Walked}
-use Rattle.lanes.specs.declared.Stage.{Stage}
-use Rattle.lanes.specs.declared.Stage.the-variants.{Idle, TakeMain, TakeFirst, SeekFirst, TakeSecond, SeekSecond, RoomFirst, RoomSecond, WriteHit, WriteRoom, Pick, DropFirst, DropSecond, DropMain, TakeNext, LookNext, PickNext, DropNext, TakeLow, TakeHigh, Swing, DropLow, DropHigh}
-use Rattle.lanes.specs.declared.Lane.{Lane}
-use Rattle.lanes.specs.declared.Answer.{Answer}
-use Rattle.lanes.specs.declared.Answer.the-variants.{GoesOn}
-use Rattle.lanes.specs.Steps.{afterMiss}
-use Rattle.lanes.specs.Claims.{isIdleOp, isRead, isInsert, isFirstPass, writesHit}
+use Rattle.machine.specs.declared.Op.{Op}
+use Rattle.machine.specs.declared.Op.the-variants.{NoOp, Read, Delete, Insert, Again}
+use Rattle.machine.specs.declared.Outcome.{Outcome}
+use Rattle.machine.specs.declared.Outcome.the-variants.{Hit, Wrote, Filled, Miss, Picked, Stuck}
+use Rattle.machine.specs.declared.Ending.{Ending}
+use Rattle.machine.specs.declared.Ending.the-variants.{Yes, Searched, Walked}
+use Rattle.machine.specs.declared.Stage.{Stage}
+use Rattle.machine.specs.declared.Stage.the-variants.{Idle, TakeMain, TakeFirst, SeekFirst, TakeSecond, SeekSecond, RoomFirst, RoomSecond, WriteHit, WriteRoom, Pick, DropFirst, DropSecond, DropMain, TakeNext, LookNext, PickNext, DropNext, TakeLow, TakeHigh, Swing, DropLow, DropHigh}
+use Rattle.machine.specs.declared.Lane.{Lane}
+use Rattle.machine.specs.declared.Answer.{Answer}
+use Rattle.machine.specs.declared.Answer.the-variants.{GoesOn}
+use Rattle.machine.specs.Steps.{afterMiss}
+use Rattle.machine.specs.Claims.{isIdleOp, isRead, isInsert, isFirstPass, writesHit}
 use Rattle.kept.proofs.Stores.{bindsTo}
 use Rattle.linear.specs.Log.{Op as MapOp, insert, Ans, readNone, readValue, deleted, insertYes}
 use Rattle.linear.specs.Map.{Bindings, binds, isNo, after, found, Gives}

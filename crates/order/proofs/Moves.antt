@@ -13,21 +13,21 @@ use Rattle.places.proofs.Limits.{ok-fits}
 use Rattle.slots.specs.Slot.{slotAt, isEmpty, isFull}
 use Rattle.paths.specs.declared.Place.{Place}
 use Rattle.paths.specs.Path.{placeAt, lastOf}
-use Rattle.lanes.specs.declared.Lane.{Lane}
-use Rattle.lanes.specs.declared.Seen.{Seen}
-use Rattle.lanes.specs.declared.Moved.{Moved}
-use Rattle.lanes.specs.Lane.{laneAt, withLane}
-use Rattle.lanes.specs.Steps.{Memory, actAt, perform, advanceAt, stepLane}
-use Rattle.lanes.specs.Claims.{isIdleOp, laneIn, claimsOf}
-use Rattle.lanes.proofs.Numbers.{lane-same, lane-other}
-use Rattle.desk.specs.declared.Stepped.the-variants.{StepDone}
-use Rattle.desk.specs.Standing.{Table}
-use Rattle.desk.specs.Desk.{memoryOf, turned, stepAnswer, stepNumbers, afterStep}
-use Rattle.lanes.proofs.Claimed.{Claimed}
+use Rattle.machine.specs.declared.Lane.{Lane}
+use Rattle.machine.specs.declared.Seen.{Seen}
+use Rattle.machine.specs.declared.Moved.{Moved}
+use Rattle.machine.specs.Lane.{laneAt, withLane}
+use Rattle.machine.specs.Steps.{Memory, actAt, perform, advanceAt, stepLane}
+use Rattle.machine.specs.Claims.{isIdleOp, laneIn, claimsOf}
+use Rattle.machine.proofs.Numbers.{lane-same, lane-other}
+use Rattle.machine.specs.declared.Stepped.the-variants.{StepDone}
+use Rattle.machine.specs.Standing.{Table}
+use Rattle.machine.specs.Desk.{memoryOf, turned, stepAnswer, stepNumbers, afterStep}
+use Rattle.machine.proofs.Claimed.{Claimed}
 use Rattle.kept.proofs.Facts.{lastFor}
 use Rattle.kept.proofs.Checked.{Standing, standing-facts}
 use Rattle.kept.proofs.Long.{Lengths, lengths-of, lanes-of}
-use Rattle.lanes.proofs.Ways.{Goes, goes}
+use Rattle.machine.proofs.Ways.{Goes, goes}
 use Rattle.kept.proofs.Does.{slots-do}
 use Rattle.kept.proofs.Stepping.{looks, solid, last-facts}
 use Rattle.kept.proofs.Kept.{StepAccepted, step-tested, step-is}

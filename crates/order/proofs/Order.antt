@@ -9,13 +9,13 @@ use native.Mathlib.Decide.{ℕ-discrete}
 use native.Mathlib.Omega.{arith}
 use borrow.Author.Tests.{eq-eqb, ne-eqb}
 use Rattle.places.specs.declared.Sizes.{Sizes}
-use Rattle.lanes.specs.declared.Answer.{Answer}
-use Rattle.lanes.specs.declared.Answer.the-variants.{GoesOn, ReadNone, ReadValue, Deleted, InsertYes, InsertSearched, InsertWalked}
-use Rattle.lanes.specs.Lane.{laneAt}
-use Rattle.desk.specs.declared.Request.{Request}
-use Rattle.desk.specs.declared.Stepped.{Stepped}
-use Rattle.desk.specs.Standing.{Table}
-use Rattle.desk.specs.Desk.{openingNumber, afterOpening, startAnswer, startNumber, stepAnswer, stepNumbers}
+use Rattle.machine.specs.declared.Answer.{Answer}
+use Rattle.machine.specs.declared.Answer.the-variants.{GoesOn, ReadNone, ReadValue, Deleted, InsertYes, InsertSearched, InsertWalked}
+use Rattle.machine.specs.Lane.{laneAt}
+use Rattle.machine.specs.declared.Request.{Request}
+use Rattle.machine.specs.declared.Stepped.{Stepped}
+use Rattle.machine.specs.Standing.{Table}
+use Rattle.machine.specs.Desk.{openingNumber, afterOpening, startAnswer, startNumber, stepAnswer, stepNumbers}
 use Rattle.linear.specs.Log.{Note, starts, ends}
 use Rattle.linear.specs.Map.{Bindings}
 use Rattle.linear.specs.Order.{Ordered}

@@ -19,25 +19,25 @@ use Rattle.slots.proofs.Facts.{SoundSlots}
 use Rattle.slots.proofs.Bindings.{bound-at}
 use Rattle.slots.proofs.Rows.{Lacks, lacks-unbound}
 use Rattle.paths.specs.declared.Place.{Place}
-use Rattle.lanes.specs.declared.Side.{Side}
-use Rattle.lanes.specs.declared.Side.the-variants.{First, Second}
-use Rattle.lanes.specs.declared.Outcome.{Outcome}
-use Rattle.lanes.specs.declared.Outcome.the-variants.{Hit, Wrote, Filled, Miss, Picked, Stuck}
-use Rattle.lanes.specs.declared.Ending.{Ending}
-use Rattle.lanes.specs.declared.Ending.the-variants.{Yes, Searched, Walked}
-use Rattle.lanes.specs.declared.Stage.{Stage}
-use Rattle.lanes.specs.declared.Stage.the-variants.{Idle, Pick, DropFirst, DropSecond, DropMain}
-use Rattle.lanes.specs.declared.Lane.{Lane}
-use Rattle.lanes.specs.declared.Seen.{Seen}
-use Rattle.lanes.specs.declared.Answer.the-variants.{GoesOn, InsertSearched, InsertWalked}
-use Rattle.lanes.specs.declared.Moved.{Moved}
-use Rattle.lanes.specs.Steps.{rowOn, goesTo, ends, insertEnd}
-use Rattle.lanes.specs.Claims.{isIdleOp, isFirstPass, endingIn, stageIn, claimsAt}
-use Rattle.lanes.proofs.Claimed.{Claimed}
-use Rattle.lanes.proofs.Ops.{first-inserts, second-inserts}
-use Rattle.lanes.proofs.Own.{Looks}
+use Rattle.machine.specs.declared.Side.{Side}
+use Rattle.machine.specs.declared.Side.the-variants.{First, Second}
+use Rattle.machine.specs.declared.Outcome.{Outcome}
+use Rattle.machine.specs.declared.Outcome.the-variants.{Hit, Wrote, Filled, Miss, Picked, Stuck}
+use Rattle.machine.specs.declared.Ending.{Ending}
+use Rattle.machine.specs.declared.Ending.the-variants.{Yes, Searched, Walked}
+use Rattle.machine.specs.declared.Stage.{Stage}
+use Rattle.machine.specs.declared.Stage.the-variants.{Idle, Pick, DropFirst, DropSecond, DropMain}
+use Rattle.machine.specs.declared.Lane.{Lane}
+use Rattle.machine.specs.declared.Seen.{Seen}
+use Rattle.machine.specs.declared.Answer.the-variants.{GoesOn, InsertSearched, InsertWalked}
+use Rattle.machine.specs.declared.Moved.{Moved}
+use Rattle.machine.specs.Steps.{rowOn, goesTo, ends, insertEnd}
+use Rattle.machine.specs.Claims.{isIdleOp, isFirstPass, endingIn, stageIn, claimsAt}
+use Rattle.machine.proofs.Claimed.{Claimed}
+use Rattle.machine.proofs.Ops.{first-inserts, second-inserts}
+use Rattle.machine.proofs.Own.{Looks}
 use Rattle.kept.proofs.Stores.{row-in, at-homes}
-use Rattle.lanes.proofs.Ways.{Leaves, leaves-hit, leaves-ended, leaves-wrote, leaves-filled, leaves-miss, leaves-picked, leaves-stuck, Swings, swings-again, swings-on, Goes, rests, main-waits, main-held, first-waits, first-held, first-read, first-hit, first-more, first-shared, first-apart, second-waits, second-held, second-read, second-hit, second-more, second-miss, second-room, room-first, room-first-more, room-first-full, room-second, room-second-more, room-pick, room-stuck, wrote-hit, wrote-room, picked-first, drops-on, drops-one, drops-two, drops-main, next-waits, next-held, next-free, next-more, next-full, next-picked, next-walk, next-over, next-again, low-waits, low-shared, low-apart, high-waits, high-held, swings, drops-low, drops-both, drops-high}
+use Rattle.machine.proofs.Ways.{Leaves, leaves-hit, leaves-ended, leaves-wrote, leaves-filled, leaves-miss, leaves-picked, leaves-stuck, Swings, swings-again, swings-on, Goes, rests, main-waits, main-held, first-waits, first-held, first-read, first-hit, first-more, first-shared, first-apart, second-waits, second-held, second-read, second-hit, second-more, second-miss, second-room, room-first, room-first-more, room-first-full, room-second, room-second-more, room-pick, room-stuck, wrote-hit, wrote-room, picked-first, drops-on, drops-one, drops-two, drops-main, next-waits, next-held, next-free, next-more, next-full, next-picked, next-walk, next-over, next-again, low-waits, low-shared, low-apart, high-waits, high-held, swings, drops-low, drops-both, drops-high}
 use Rattle.linear.specs.Log.{insertSearched, insertWalked}
 use Rattle.linear.specs.Map.{Bindings}
 use Rattle.linear.proofs.Deeds.{has, waits}

@@ -8,16 +8,16 @@ use lib.Dec.{eqb}
 use Rattle.lists.specs.Below.{bit}
 use Rattle.places.specs.declared.Sizes.{Sizes}
 use Rattle.slots.specs.Slot.{isFull, holds}
-use Rattle.lanes.specs.declared.Op.{Op}
-use Rattle.lanes.specs.declared.Outcome.{Outcome}
-use Rattle.lanes.specs.declared.Outcome.the-variants.{Hit, Wrote, Filled, Miss, Picked, Stuck}
-use Rattle.lanes.specs.declared.Ending.{Ending}
-use Rattle.lanes.specs.declared.Ending.the-variants.{Yes, Searched, Walked}
-use Rattle.lanes.specs.declared.Stage.{Stage}
-use Rattle.lanes.specs.declared.Stage.the-variants.{Idle, TakeMain, TakeFirst, SeekFirst, TakeSecond, SeekSecond, RoomFirst, RoomSecond, WriteHit, WriteRoom, Pick, DropFirst, DropSecond, DropMain, TakeNext, LookNext, PickNext, DropNext, TakeLow, TakeHigh, Swing, DropLow, DropHigh}
-use Rattle.lanes.specs.declared.Lane.{Lane}
-use Rattle.lanes.specs.declared.Seen.{Seen}
-use Rattle.lanes.specs.Claims.{isSecondPass}
+use Rattle.machine.specs.declared.Op.{Op}
+use Rattle.machine.specs.declared.Outcome.{Outcome}
+use Rattle.machine.specs.declared.Outcome.the-variants.{Hit, Wrote, Filled, Miss, Picked, Stuck}
+use Rattle.machine.specs.declared.Ending.{Ending}
+use Rattle.machine.specs.declared.Ending.the-variants.{Yes, Searched, Walked}
+use Rattle.machine.specs.declared.Stage.{Stage}
+use Rattle.machine.specs.declared.Stage.the-variants.{Idle, TakeMain, TakeFirst, SeekFirst, TakeSecond, SeekSecond, RoomFirst, RoomSecond, WriteHit, WriteRoom, Pick, DropFirst, DropSecond, DropMain, TakeNext, LookNext, PickNext, DropNext, TakeLow, TakeHigh, Swing, DropLow, DropHigh}
+use Rattle.machine.specs.declared.Lane.{Lane}
+use Rattle.machine.specs.declared.Seen.{Seen}
+use Rattle.machine.specs.Claims.{isSecondPass}
 use Rattle.order.specs.History.{Sight, Item, isWrite, writesIn, fullOn, fullColumns, fullAttempts, missOn, missed, roomOn, crowded}
 
 -- the counts of a history

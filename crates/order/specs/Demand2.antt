@@ -7,9 +7,9 @@ use mathlib.Core.List.{List, _∷_}
 use mathlib.Core.Option.{Option, none, some}
 use Prim.Native.Nat.{ℕ, _+_, _≤_}
 use Rattle.places.specs.declared.Sizes.{Sizes}
-use Rattle.lanes.specs.Lane.{laneAt}
-use Rattle.desk.specs.Standing.{Table}
-use Rattle.desk.specs.Desk.{stepAnswer, afterStep}
+use Rattle.machine.specs.Lane.{laneAt}
+use Rattle.machine.specs.Standing.{Table}
+use Rattle.machine.specs.Desk.{stepAnswer, afterStep}
 use Rattle.linear.specs.Log.{Ans, readNone, readValue, deleted, insertYes, insertSearched, insertWalked}
 use Rattle.linear.specs.Map.{saidNo, after}
 use Rattle.order.specs.Run.{Event, tableAfter, bindings, opAt, endBy}

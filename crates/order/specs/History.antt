@@ -8,14 +8,14 @@ use Rattle.lists.specs.Below.{bit}
 use Rattle.places.specs.declared.Sizes.{Sizes}
 use Rattle.slots.specs.declared.Slot.{Slot}
 use Rattle.slots.specs.Slot.{isFull, holds}
-use Rattle.lanes.specs.declared.Stage.{Stage}
-use Rattle.lanes.specs.declared.Stage.the-variants.{Idle, TakeMain, TakeFirst, SeekFirst, TakeSecond, SeekSecond, RoomFirst, RoomSecond, WriteHit, WriteRoom, Pick, DropFirst, DropSecond, DropMain, TakeNext, LookNext, PickNext, DropNext, TakeLow, TakeHigh, Swing, DropLow, DropHigh}
-use Rattle.lanes.specs.declared.Lane.{Lane}
-use Rattle.lanes.specs.Lane.{laneAt}
-use Rattle.lanes.specs.Steps.{actOf, perform}
-use Rattle.lanes.specs.Claims.{isSecondPass}
-use Rattle.desk.specs.Standing.{Table, lastAt}
-use Rattle.desk.specs.Desk.{memoryOf}
+use Rattle.machine.specs.declared.Stage.{Stage}
+use Rattle.machine.specs.declared.Stage.the-variants.{Idle, TakeMain, TakeFirst, SeekFirst, TakeSecond, SeekSecond, RoomFirst, RoomSecond, WriteHit, WriteRoom, Pick, DropFirst, DropSecond, DropMain, TakeNext, LookNext, PickNext, DropNext, TakeLow, TakeHigh, Swing, DropLow, DropHigh}
+use Rattle.machine.specs.declared.Lane.{Lane}
+use Rattle.machine.specs.Lane.{laneAt}
+use Rattle.machine.specs.Steps.{actOf, perform}
+use Rattle.machine.specs.Claims.{isSecondPass}
+use Rattle.machine.specs.Standing.{Table, lastAt}
+use Rattle.machine.specs.Desk.{memoryOf}
 use Rattle.order.specs.Run.{Event, start, step, next}
 
 -- ---- the history

@@ -8,24 +8,24 @@ use Prim.Native.Nat.{ℕ, _+_}
 use lib.Dec.{eqb}
 use Rattle.places.specs.declared.Sizes.{Sizes}
 use Rattle.slots.specs.Bound.{bound}
-use Rattle.lanes.specs.declared.Op.{Op as LaneOp}
-use Rattle.lanes.specs.declared.Op.the-variants.{NoOp, Read, Delete, Insert, Again}
-use Rattle.lanes.specs.declared.Outcome.{Outcome}
-use Rattle.lanes.specs.declared.Outcome.the-variants.{Hit, Wrote, Filled, Miss, Picked, Stuck}
-use Rattle.lanes.specs.declared.Ending.{Ending}
-use Rattle.lanes.specs.declared.Ending.the-variants.{Yes, Searched, Walked}
-use Rattle.lanes.specs.declared.Stage.{Stage}
-use Rattle.lanes.specs.declared.Stage.the-variants.{Idle, TakeMain, TakeFirst, SeekFirst, TakeSecond, SeekSecond, RoomFirst, RoomSecond, WriteHit, WriteRoom, Pick, DropFirst, DropSecond, DropMain, TakeNext, LookNext, PickNext, DropNext, TakeLow, TakeHigh, Swing, DropLow, DropHigh}
-use Rattle.lanes.specs.declared.Lane.{Lane}
-use Rattle.lanes.specs.declared.Answer.{Answer}
-use Rattle.lanes.specs.declared.Answer.the-variants.{GoesOn, ReadNone, ReadValue, Deleted, InsertYes, InsertSearched, InsertWalked}
-use Rattle.lanes.specs.Lane.{laneAt}
-use Rattle.desk.specs.declared.Request.{Request}
-use Rattle.desk.specs.declared.Request.the-variants.{AskRead, AskDelete, AskInsert}
-use Rattle.desk.specs.declared.Stepped.{Stepped}
-use Rattle.desk.specs.declared.Stepped.the-variants.{StepDone, StepBadSizes, StepBadLengths, StepNotStanding, StepNoLane, StepIdle}
-use Rattle.desk.specs.Standing.{Table}
-use Rattle.desk.specs.Desk.{startAnswer, startNumber, afterStart, stepAnswer, stepNumbers, afterStep}
+use Rattle.machine.specs.declared.Op.{Op as LaneOp}
+use Rattle.machine.specs.declared.Op.the-variants.{NoOp, Read, Delete, Insert, Again}
+use Rattle.machine.specs.declared.Outcome.{Outcome}
+use Rattle.machine.specs.declared.Outcome.the-variants.{Hit, Wrote, Filled, Miss, Picked, Stuck}
+use Rattle.machine.specs.declared.Ending.{Ending}
+use Rattle.machine.specs.declared.Ending.the-variants.{Yes, Searched, Walked}
+use Rattle.machine.specs.declared.Stage.{Stage}
+use Rattle.machine.specs.declared.Stage.the-variants.{Idle, TakeMain, TakeFirst, SeekFirst, TakeSecond, SeekSecond, RoomFirst, RoomSecond, WriteHit, WriteRoom, Pick, DropFirst, DropSecond, DropMain, TakeNext, LookNext, PickNext, DropNext, TakeLow, TakeHigh, Swing, DropLow, DropHigh}
+use Rattle.machine.specs.declared.Lane.{Lane}
+use Rattle.machine.specs.declared.Answer.{Answer}
+use Rattle.machine.specs.declared.Answer.the-variants.{GoesOn, ReadNone, ReadValue, Deleted, InsertYes, InsertSearched, InsertWalked}
+use Rattle.machine.specs.Lane.{laneAt}
+use Rattle.machine.specs.declared.Request.{Request}
+use Rattle.machine.specs.declared.Request.the-variants.{AskRead, AskDelete, AskInsert}
+use Rattle.machine.specs.declared.Stepped.{Stepped}
+use Rattle.machine.specs.declared.Stepped.the-variants.{StepDone, StepBadSizes, StepBadLengths, StepNotStanding, StepNoLane, StepIdle}
+use Rattle.machine.specs.Standing.{Table}
+use Rattle.machine.specs.Desk.{startAnswer, startNumber, afterStart, stepAnswer, stepNumbers, afterStep}
 use Rattle.linear.specs.Log.{Op, read, delete, insert, Ans, readNone, readValue, deleted, insertYes, insertSearched, insertWalked, Note, starts, ends}
 use Rattle.linear.specs.Map.{Bindings}
 

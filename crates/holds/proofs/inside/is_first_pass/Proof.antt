@@ -1,0 +1,14 @@
+-- `is_first_pass` is its definition: a test of the code of the operation.
+-- Assumes nothing.
+use borrow.Author.Needs.{needs}
+use Rattle.holds.proofs.inside.is_first_pass.Statement.{statement}
+use Rattle.holds.proofs.inside.is_first_pass.Tie as tie
+
+op-code-requires : tie.Need-op-code-requires
+op-code-requires c κs = search needs
+
+returns : tie.Need-returns
+returns c = rw (c .op-code .ensures)
+
+pub is-first-pass-spec : {M : Type 1} → statement M
+is-first-pass-spec = tie.close (tie.spec op-code-requires returns)

@@ -1,0 +1,14 @@
+-- `is_read` is its definition: a test of the code of the operation.
+-- Assumes nothing.
+use borrow.Author.Needs.{needs}
+use Rattle.holds.proofs.inside.is_read.Statement.{statement}
+use Rattle.holds.proofs.inside.is_read.Tie as tie
+
+op-code-requires : tie.Need-op-code-requires
+op-code-requires c κs = search needs
+
+returns : tie.Need-returns
+returns c = rw (c .op-code .ensures)
+
+pub is-read-spec : {M : Type 1} → statement M
+is-read-spec = tie.close (tie.spec op-code-requires returns)

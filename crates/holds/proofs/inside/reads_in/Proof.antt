@@ -1,0 +1,58 @@
+-- `reads_in` is its definition: by what the grab is.
+-- Assumes nothing.
+use borrow.Author.Needs.{needs}
+use Rattle.holds.proofs.inside.reads_in.Statement.{statement}
+use Rattle.holds.proofs.inside.reads_in.Tie as tie
+
+enum-told : tie.Need-enum-told
+enum-told c = search needs
+
+enum-known-grab : tie.Need-enum-known-grab
+enum-known-grab c = search needs
+
+enum-told-2 : tie.Need-enum-told-2
+enum-told-2 c = search needs
+
+enum-told-3 : tie.Need-enum-told-3
+enum-told-3 c = search needs
+
+enum-told-4 : tie.Need-enum-told-4
+enum-told-4 c = search needs
+
+enum-told-5 : tie.Need-enum-told-5
+enum-told-5 c = search needs
+
+returns : tie.Need-returns
+returns c = search needs
+
+returns-2 : tie.Need-returns-2
+returns-2 c = cc
+
+returns-3 : tie.Need-returns-3
+returns-3 c = search needs
+
+returns-4 : tie.Need-returns-4
+returns-4 c = search needs
+
+returns-5 : tie.Need-returns-5
+returns-5 c = search needs
+
+returns-6 : tie.Need-returns-6
+returns-6 c = search needs
+
+pub reads-in-spec : {M : Type 1} → statement M
+reads-in-spec =
+    tie.close
+    (tie.spec
+    enum-told
+    enum-known-grab
+    enum-told-2
+    enum-told-3
+    enum-told-4
+    enum-told-5
+    returns
+    returns-2
+    returns-3
+    returns-4
+    returns-5
+    returns-6)

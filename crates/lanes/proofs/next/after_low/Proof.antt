@@ -1,0 +1,21 @@
+-- `after_low` is its definition, by whether the swing's rows have one lock.
+-- Assumes nothing.
+use borrow.Author.Needs.{needs}
+use Rattle.rows.proofs.Choices.{one-lock, two-locks}
+use Rattle.lanes.proofs.next.after_low.Statement.{statement}
+use Rattle.lanes.proofs.next.after_low.Tie as tie
+
+swing-rows-requires : tie.Need-swing-rows-requires
+swing-rows-requires c κs = search needs
+
+grab-of-requires : tie.Need-grab-of-requires
+grab-of-requires c κs = search needs
+
+returns : tie.Need-returns
+returns c = search one-lock
+
+returns-2 : tie.Need-returns-2
+returns-2 c = search two-locks
+
+pub after-low-spec : {M : Type 1} → statement M
+after-low-spec = tie.close (tie.spec swing-rows-requires grab-of-requires returns returns-2)

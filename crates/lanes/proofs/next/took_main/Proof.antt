@@ -1,0 +1,25 @@
+-- `took_main` is its definition, by how the try went.
+-- Assumes nothing.
+use borrow.Author.Needs.{needs}
+use Rattle.lanes.proofs.Advancing.{tried-at}
+use Rattle.lanes.proofs.next.took_main.Statement.{statement}
+use Rattle.lanes.proofs.next.took_main.Tie as tie
+
+enum-told : tie.Need-enum-told
+enum-told c = search needs
+
+row-grab-requires : tie.Need-row-grab-requires
+row-grab-requires c κs = search needs
+
+enum-known-tried : tie.Need-enum-known-tried
+enum-known-tried c = search needs
+
+returns : tie.Need-returns
+returns c = search tried-at
+
+returns-2 : tie.Need-returns-2
+returns-2 c = search tried-at
+
+pub took-main-spec : {M : Type 1} → statement M
+took-main-spec =
+    tie.close (tie.spec enum-told row-grab-requires enum-known-tried returns returns-2)

@@ -1,0 +1,15 @@
+pub mod Numbers
+pub mod Claimed
+pub mod Ops
+pub mod Ways
+pub mod Swaps
+pub mod Follows
+pub mod Route
+pub mod Frame
+pub mod Grabbing
+pub mod Range
+pub mod Shift
+pub mod Guards
+pub mod Single
+pub mod Picks
+pub mod Own

@@ -1,0 +1,5 @@
+pub mod Lane
+pub mod Steps
+pub mod Claims
+pub mod Standing
+pub mod Desk

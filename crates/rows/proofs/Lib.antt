@@ -1,0 +1,2 @@
+mod Rowing
+pub mod Choices
