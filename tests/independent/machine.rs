@@ -266,8 +266,10 @@ pub struct Machine {
     slots: Vec<Option<Pair>>,
     locks: Vec<Lock>,
     lanes: Vec<Option<Work>>,
-    /// How often each thing was met. For counts only, no rule looks at it.
+    /// How often each thing was met, where `counting` is set. No rule looks at
+    /// either.
     pub tally: BTreeMap<&'static str, u64>,
+    pub counting: bool,
 }
 
 impl Machine {
@@ -279,6 +281,7 @@ impl Machine {
             locks: vec![Lock::default(); sizes.locks + 1],
             lanes: vec![None; sizes.lanes],
             tally: BTreeMap::new(),
+            counting: false,
         }
     }
 
@@ -365,7 +368,9 @@ impl Machine {
     }
 
     fn met(&mut self, what: &'static str) {
-        *self.tally.entry(what).or_insert(0) += 1;
+        if self.counting {
+            *self.tally.entry(what).or_insert(0) += 1;
+        }
     }
 
     /// Carries out `work.doing`: one step.
@@ -711,7 +716,9 @@ mod tests {
     use std::collections::BTreeMap;
 
     fn machine(h: u8, w: u8, l: u8, n: u8) -> Machine {
-        Machine::new(Sizes::new(h, w, l, n).unwrap())
+        let mut machine = Machine::new(Sizes::new(h, w, l, n).unwrap());
+        machine.counting = true;
+        machine
     }
 
     /// Runs lane 0 alone, handing the pick steps these bytes in turn and every

@@ -1,2 +1,2 @@
 mod Holding
-mod Tested
+pub mod Tested

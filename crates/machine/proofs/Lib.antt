@@ -1,3 +1,4 @@
+pub mod Writes
 pub mod Numbers
 pub mod Claimed
 pub mod Ops

@@ -8,12 +8,13 @@ use Prim.Native.Nat.{ℕ, _+_, _-_, _≤_, _<_}
 use native.Mathlib.Omega.{arith}
 use borrow.Author.Tests.{ne-eqb}
 use Rattle.lists.specs.Below.{anyBelow}
-use Rattle.lists.proofs.Below.{any-turn, any-down, any-hit, first-stop}
+use Rattle.lists.proofs.Below.{any-turn, any-down, any-hit}
 use Rattle.places.specs.declared.Sizes.{Sizes}
 use Rattle.places.specs.Table.{slotCount}
 use Rattle.slots.specs.declared.Slot.{Slot}
 use Rattle.slots.specs.Slot.{slotAt, isFull, holds}
-use Rattle.slots.specs.Sound.{badShape, strays, standsBelow, faultOf, isFaulty, lowestFault, sound, finding, openingFault}
+use Rattle.slots.specs.Sound.{badShape, strays, standsBelow, faultOf, isFaulty, sound, finding, openingFault}
+use Rattle.slots.proofs.Lowest.{lowest-fault}
 
 -- the loop over lower slots: those below j decide for all below i
 module _ (xs : List ℕ) (i key j : ℕ) where
@@ -41,8 +42,7 @@ module _ (z : Sizes) (xs : List ℕ) (n i : ℕ) (en : n ≡ slotCount z) (inv :
     stop k d e =
         let f : faultOf z xs i (slotAt xs i) ≡ k = rw es at e in
         let h : isFaulty z xs i ≡ true = rw (f, ne-eqb k 0 d) in
-        let lowest : lowestFault z xs ≡ i = first-stop (isFaulty z xs) (slotCount z) i (omega arith) inv h in
-        rw (any-hit (isFaulty z xs) (slotCount z) i (omega arith) h, lowest, f)
+        rw (any-hit (isFaulty z xs) (slotCount z) i (omega arith) h, lowest-fault z xs i (omega arith) inv h, f)
 
     pass : faultOf z xs i s ≡ 0 → anyBelow (i + 1) (isFaulty z xs) ≡ false
     unfolding isFaulty

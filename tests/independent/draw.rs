@@ -1,130 +1,12 @@
 //! Makes jobs to run programs on. The same seed gives the same jobs.
 //!
-//!   generate SEED COUNT FOLDER    writes the files 0.job, 1.job, ... there
-//!   generate SEED --job INDEX     writes the bytes of one of them to standard
-//!                                 output
-//!
-//! The first jobs are fixed ones: edges of the file's rules. Then come jobs
-//! drawn by the seed: one short job cut at every byte, jobs at the limit of
-//! 60,000 bytes, and drawn jobs without end. Good schedules need to know which
-//! lanes are busy, so a draft carries a machine along.
+//! The first jobs are fixed ones: the tapes with names, and pick bytes. Then come
+//! jobs drawn by the seed: one short job cut at every byte, jobs at the limit of
+//! 60,000 bytes, and drawn jobs without end.
 
-mod machine;
-
-use machine::{End, Errand, Machine, Sizes, LAST_KEY};
-
-/// The number generator known as SplitMix64.
-struct Dice(u64);
-
-impl Dice {
-    fn next(&mut self) -> u64 {
-        self.0 = self.0.wrapping_add(0x9E37_79B9_7F4A_7C15);
-        let mut z = self.0;
-        z = (z ^ (z >> 30)).wrapping_mul(0xBF58_476D_1CE4_E5B9);
-        z = (z ^ (z >> 27)).wrapping_mul(0x94D0_49BB_1331_11EB);
-        z ^ (z >> 31)
-    }
-
-    /// A number from `low` to `high`, both included.
-    fn from_to(&mut self, low: usize, high: usize) -> usize {
-        low + (self.next() % (high - low + 1) as u64) as usize
-    }
-
-    fn one_in(&mut self, times: usize) -> bool {
-        self.from_to(1, times) == 1
-    }
-
-    fn byte(&mut self) -> u8 {
-        self.next() as u8
-    }
-
-    fn pick<T: Copy>(&mut self, list: &[T]) -> T {
-        list[self.from_to(0, list.len() - 1)]
-    }
-}
-
-// ---------------------------------------------------------------- records
-
-const END: u8 = 6;
-
-fn sizes_record(sizes: [u8; 4]) -> Vec<u8> {
-    [&[1][..], &sizes].concat()
-}
-
-fn start_record(lane: u8, key: u32, errand: Errand) -> Vec<u8> {
-    let (kind, value) = match errand {
-        Errand::Read => (2, None),
-        Errand::Delete => (3, None),
-        Errand::Insert { value } => (4, Some(value)),
-    };
-    let mut record = vec![kind, lane];
-    record.extend(key.to_le_bytes());
-    if let Some(value) = value {
-        record.extend(value.to_le_bytes());
-    }
-    record
-}
-
-fn step_record(lane: u8, byte: u8) -> Vec<u8> {
-    vec![5, lane, byte]
-}
-
-const ERRANDS: [Errand; 3] = [Errand::Read, Errand::Delete, Errand::Insert { value: 7 }];
-
-// ----------------------------------------------------------------- drafts
-
-/// A job under way, all its records good so far.
-struct Draft {
-    bytes: Vec<u8>,
-    machine: Machine,
-    lanes: usize,
-}
-
-impl Draft {
-    fn new(sizes: [u8; 4]) -> Draft {
-        let [h, w, l, n] = sizes;
-        Draft {
-            bytes: sizes_record(sizes),
-            machine: Machine::new(Sizes::new(h, w, l, n).expect("a draft has good sizes")),
-            lanes: n as usize,
-        }
-    }
-
-    fn start(&mut self, lane: usize, key: u32, errand: Errand) {
-        self.bytes.extend(start_record(lane as u8, key, errand));
-        self.machine.start(lane as u8, key, errand).expect("a good start");
-    }
-
-    fn step(&mut self, lane: usize, byte: u8) -> Option<End> {
-        self.bytes.extend(step_record(lane as u8, byte));
-        self.machine.step(lane as u8, byte).expect("a good step")
-    }
-
-    fn finish(mut self) -> Vec<u8> {
-        self.bytes.push(END);
-        self.bytes
-    }
-
-    fn busy(&self) -> Vec<usize> {
-        (0..self.lanes).filter(|lane| self.machine.is_busy(*lane)).collect()
-    }
-
-    fn idle(&self) -> Vec<usize> {
-        (0..self.lanes).filter(|lane| !self.machine.is_busy(*lane)).collect()
-    }
-
-    /// A whole operation by one lane, the pick steps getting these bytes.
-    fn alone(&mut self, lane: usize, key: u32, errand: Errand, picks: &[u8]) -> End {
-        self.start(lane, key, errand);
-        let mut picks = picks.iter();
-        loop {
-            let byte = if self.machine.at_pick(lane) { *picks.next().unwrap_or(&0) } else { 0xEE };
-            if let Some(end) = self.step(lane, byte) {
-                return end;
-            }
-        }
-    }
-}
+use crate::draft::{sizes_record, start_record, step_record, Dice, Draft, END, ERRANDS};
+use crate::machine::{End, Errand, LAST_KEY};
+use crate::tapes::tapes;
 
 // -------------------------------------------------------------- schedules
 
@@ -758,156 +640,11 @@ const LIMIT_JOBS: usize = 20;
 
 // ---------------------------------------------------------- fixed jobs
 
-/// 01's whole case.
-fn whole_case() -> Vec<u8> {
-    let mut draft = Draft::new([3, 1, 3, 1]);
-    draft.start(0, 1024, Errand::Insert { value: 7 });
-    for _ in 0..13 {
-        draft.step(0, 0);
-    }
-    draft.start(0, 1024, Errand::Read);
-    for _ in 0..5 {
-        draft.step(0, 0);
-    }
-    draft.finish()
-}
-
-/// 01's walk case, its table made by inserts and deletes: 2 and 14 keep row 2
-/// full while 11 and 23 come.
-fn walk_case(picks: &[u8]) -> Vec<u8> {
-    let mut draft = Draft::new([4, 2, 4, 1]);
-    for key in [24, 12, 9, 1, 2, 14, 11, 23] {
-        draft.alone(0, key, Errand::Insert { value: key }, &[]);
-    }
-    for key in [2, 14] {
-        draft.alone(0, key, Errand::Delete, &[]);
-    }
-    draft.alone(0, 8, Errand::Insert { value: 5 }, picks);
-    draft.finish()
-}
-
-fn fixed_jobs() -> Vec<Vec<u8>> {
-    let mut jobs = vec![whole_case()];
-    for length in 0..whole_case().len() {
-        jobs.push(whole_case()[..length].to_vec());
-    }
-    for after in [vec![6], vec![0], vec![1], vec![6, 6], whole_case()] {
-        jobs.push([whole_case(), after].concat());
-    }
-
-    // What stands first.
-    for first in 0..=8 {
-        jobs.push(vec![first]);
-        jobs.push(vec![first, 6]);
-        jobs.push([vec![first], vec![0; 12]].concat());
-    }
-    jobs.push(vec![255]);
-    for errand in ERRANDS {
-        jobs.push([start_record(0, 1, errand), vec![1, 2, 1, 1, 1, 6]].concat());
-    }
-    jobs.push(vec![5, 0, 0, 1, 2, 1, 1, 1, 6]);
-
-    // Sizes at and past each limit.
-    for sizes in [
-        [2, 1, 1, 1],
-        [2, 1, 2, 8],
-        [64, 8, 64, 8],
-        [64, 1, 1, 1],
-        [64, 8, 1, 8],
-        [0, 1, 1, 1],
-        [1, 1, 1, 1],
-        [65, 1, 1, 1],
-        [65, 8, 65, 8],
-        [255, 1, 1, 1],
-        [2, 0, 1, 1],
-        [2, 9, 1, 1],
-        [2, 255, 1, 1],
-        [2, 1, 0, 1],
-        [2, 1, 3, 1],
-        [64, 8, 65, 8],
-        [64, 8, 255, 8],
-        [2, 1, 1, 0],
-        [2, 1, 1, 9],
-        [2, 1, 1, 255],
-        [0, 0, 0, 0],
-        [255, 255, 255, 255],
-    ] {
-        let record = sizes_record(sizes);
-        jobs.push([&record[..], &[6]].concat());
-        jobs.push([&record[..], &[6, 6]].concat());
-        jobs.push(record.clone());
-        jobs.push(record[..4].to_vec());
-    }
-
-    // After the sizes: a second kind 1, every unknown kind.
-    let two_lanes = sizes_record([2, 1, 2, 2]);
-    for second in [vec![1, 2, 1, 2, 2], vec![1, 0, 0, 0, 0], vec![1, 2, 1, 2], vec![1]] {
-        jobs.push([&two_lanes[..], &second, &[6]].concat());
-        jobs.push([&two_lanes[..], &second].concat());
-    }
-    for kind in (0..=255).filter(|kind| !(1..=6).contains(kind)).step_by(7) {
-        jobs.push([&two_lanes[..], &[kind, 6]].concat());
-    }
-    for kind in [0, 7, 8, 254, 255] {
-        jobs.push([&two_lanes[..], &[kind]].concat());
-    }
-
-    // Keys and lanes at and past their limits, idle lanes, busy lanes, and
-    // which refusal comes first.
-    let busy = start_record(1, 3, Errand::Read);
-    for errand in ERRANDS {
-        for lane in [0, 1, 2, 8, 255] {
-            for key in [0, LAST_KEY, LAST_KEY + 1, 1 << 24, 1 << 31, u32::MAX] {
-                let start = start_record(lane, key, errand);
-                jobs.push([&two_lanes[..], &busy, &start, &[6]].concat());
-            }
-        }
-    }
-    for lane in [0, 1, 2, 8, 255] {
-        jobs.push([&two_lanes[..], &busy, &step_record(lane, 255), &[6]].concat());
-    }
-
-    // Key 0 and value 0, key 8388607 and the greatest value, each bit alone.
-    for sizes in [[2, 8, 2, 1], [64, 8, 64, 8], [3, 8, 1, 1]] {
-        let mut draft = Draft::new(sizes);
-        draft.alone(0, 0, Errand::Insert { value: 0 }, &[]);
-        draft.alone(0, LAST_KEY, Errand::Insert { value: u32::MAX }, &[]);
-        for bit in 0..23 {
-            draft.alone(0, 1 << bit, Errand::Insert { value: 1 << (31 - bit) }, &[]);
-        }
-        for bit in 0..23 {
-            draft.alone(0, 1 << bit, Errand::Read, &[]);
-        }
-        draft.alone(0, LAST_KEY, Errand::Read, &[]);
-        jobs.push(draft.finish());
-    }
-
-    // 01's "Tapes to try": step counts for every W, by one step too few, just
-    // enough, one too many (the last is refused 8).
-    for w in 1..=8 {
-        for l in [1, 3] {
-            for errand in ERRANDS {
-                for key in [0, 1024] {
-                    let mut draft = Draft::new([3, w, l, 1]);
-                    draft.alone(0, key, errand, &[]);
-                    let bytes = draft.bytes;
-                    jobs.push([&bytes[..bytes.len() - 3], &[6]].concat());
-                    jobs.push([&bytes[..], &[6]].concat());
-                    jobs.push([&bytes[..], &[5, 0, 0, 6]].concat());
-                }
-            }
-        }
-    }
-
-    // The walk case, and the same table with other pick bytes.
-    jobs.push(walk_case(&[0, 0, 0, 1]));
-    for picks in [[3, 0, 0, 0], [2, 1, 0, 0], [1, 1, 1, 1], [0, 1, 0, 0], [255, 254, 253, 252]] {
-        jobs.push(walk_case(&picks));
-    }
-
-    // Every pick byte on a full table, for keys whose rows are taken in the
-    // one order and in the other, and for shared locks. The first row of each
-    // key can be told from the walk: one slot far off is free.
+/// Every pick byte on a full table, for keys whose rows are taken in the one
+/// order and in the other, and for shared locks. The first row of each key can
+/// be told from the walk: one slot far off is free.
+fn pick_bytes() -> Vec<Vec<u8>> {
+    let mut jobs = Vec::new();
     for byte in (0..=9).chain([127, 128, 254, 255]) {
         for l in [1, 2, 4] {
             let mut draft = Draft::new([4, 2, l, 1]);
@@ -922,25 +659,12 @@ fn fixed_jobs() -> Vec<Vec<u8>> {
             jobs.push(draft.finish());
         }
     }
-
-    // Kind 6 while lanes are at each of their places.
-    let mut draft = Draft::new([3, 1, 3, 2]);
-    for key in [0, 1, 2] {
-        draft.alone(0, key, Errand::Insert { value: key }, &[]);
-    }
-    draft.start(0, 9, Errand::Insert { value: 9 });
-    draft.start(1, 1, Errand::Delete);
-    while !draft.busy().is_empty() {
-        let mut ended = draft.bytes.clone();
-        ended.push(END);
-        jobs.push(ended);
-        for lane in draft.busy() {
-            draft.step(lane, 0);
-        }
-    }
-    jobs.push(draft.finish());
-
     jobs
+}
+
+/// The tapes with names, then `pick_bytes`.
+fn fixed_jobs() -> Vec<Vec<u8>> {
+    tapes().into_iter().map(|tape| tape.job).chain(pick_bytes()).collect()
 }
 
 // ------------------------------------------------------------- all jobs
@@ -956,11 +680,14 @@ fn job_to_cut(seed: u64) -> Vec<u8> {
     }
 }
 
-fn drawn_job(seed: u64, index: usize) -> Vec<u8> {
+/// Jobs whose indices differ by a multiple of this are of one kind.
+pub const DRAWN_KINDS: usize = 24;
+
+pub fn drawn_job(seed: u64, index: usize) -> Vec<u8> {
     let mut dice = Dice(seed.wrapping_mul(0x1_0000_0001).wrapping_add(index as u64) ^ 0xD1CE);
     dice.next();
     let mut dice = Dice(dice.next());
-    match index % 24 {
+    match index % DRAWN_KINDS {
         0..=2 => mixed(&mut dice).finish(),
         3..=6 => crowded(&mut dice).finish(),
         7 | 8 => full(&mut dice).finish(),
@@ -985,18 +712,18 @@ fn drawn_job(seed: u64, index: usize) -> Vec<u8> {
 }
 
 /// The jobs of a seed, one by one.
-struct Jobs {
+pub struct Jobs {
     seed: u64,
     fixed: Vec<Vec<u8>>,
     to_cut: Vec<u8>,
 }
 
 impl Jobs {
-    fn new(seed: u64) -> Jobs {
+    pub fn new(seed: u64) -> Jobs {
         Jobs { seed, fixed: fixed_jobs(), to_cut: job_to_cut(seed) }
     }
 
-    fn job(&self, index: usize) -> Vec<u8> {
+    pub fn job(&self, index: usize) -> Vec<u8> {
         let mut index = index;
         if index < self.fixed.len() {
             return self.fixed[index].clone();
@@ -1012,29 +739,4 @@ impl Jobs {
         }
         drawn_job(self.seed, index - LIMIT_JOBS)
     }
-}
-
-fn main() {
-    let arguments: Vec<String> = std::env::args().skip(1).collect();
-    let number = |text: &str| text.parse::<u64>().unwrap_or_else(|_| usage());
-    match arguments.iter().map(String::as_str).collect::<Vec<_>>()[..] {
-        [seed, "--job", index] => {
-            let job = Jobs::new(number(seed)).job(number(index) as usize);
-            std::io::Write::write_all(&mut std::io::stdout(), &job)
-                .expect("standard output can be written");
-        }
-        [seed, count, folder] => {
-            let jobs = Jobs::new(number(seed));
-            for index in 0..number(count) as usize {
-                let path = std::path::Path::new(folder).join(format!("{index}.job"));
-                std::fs::write(path, jobs.job(index)).expect("the folder can be written");
-            }
-        }
-        _ => usage(),
-    }
-}
-
-fn usage() -> ! {
-    eprintln!("usage: generate SEED COUNT FOLDER, or generate SEED --job INDEX");
-    std::process::exit(2)
 }

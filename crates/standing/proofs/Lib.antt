@@ -1,0 +1,4 @@
+mod Beyond
+mod Turns
+mod Shared
+mod Whole

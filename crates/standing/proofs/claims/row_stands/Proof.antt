@@ -1,0 +1,18 @@
+-- `row_stands` is its definition: from those of its two loops.
+-- Assumes nothing.
+use borrow.Author.Needs.{needs}
+use Rattle.standing.proofs.Whole.{row-whole}
+use Rattle.standing.proofs.claims.row_stands.Statement.{statement}
+use Rattle.standing.proofs.claims.row_stands.Tie as tie
+
+row-lacks-requires : tie.Need-row-lacks-requires
+row-lacks-requires c κs = search needs
+
+row-full-requires : tie.Need-row-full-requires
+row-full-requires c κs = search needs
+
+returns : tie.Need-returns
+returns c = search row-whole
+
+pub row-stands-spec : {M : Type 1} → statement M
+row-stands-spec = tie.close (tie.spec row-lacks-requires row-full-requires returns)

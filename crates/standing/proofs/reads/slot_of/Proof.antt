@@ -1,0 +1,34 @@
+-- `slot_of` is the slot of that index: read where there is one, empty past the end.
+-- Assumes nothing.
+use native.Mathlib.Omega.{arith}
+use borrow.Author.Needs.{needs}
+use Rattle.places.specs.Table.{slotIndex}
+use Rattle.standing.proofs.Beyond.{index-fits, slot-past}
+use Rattle.standing.proofs.reads.slot_of.Statement.{statement}
+use Rattle.standing.proofs.reads.slot_of.Tie as tie
+
+cast-i : tie.Need-cast-i
+cast-i c = search needs
+
+mul-i : tie.Need-mul-i
+mul-i c = omega (arith, index-fits (c .before .before .args .row) _ (c .before .before .pre .0 .columnsHigh))
+
+add-i : tie.Need-add-i
+add-i c = omega (arith, index-fits (c .before .before .args .row) _ (c .before .before .pre .0 .columnsHigh))
+
+slot-count-requires : tie.Need-slot-count-requires
+slot-count-requires c κs = search needs
+
+slot-at-requires : tie.Need-slot-at-requires
+slot-at-requires c κs = search needs
+
+returns : tie.Need-returns
+unfolding slotIndex
+returns c = search needs
+
+returns-2 : tie.Need-returns-2
+returns-2 c = search slot-past
+
+pub slot-of-spec : {M : Type 1} → statement M
+slot-of-spec =
+    tie.close (tie.spec cast-i mul-i add-i slot-count-requires slot-at-requires returns returns-2)
