@@ -1,0 +1,55 @@
+use Rattle.job_records.proofs.Whole.{no-byte, whole, cut, in-front, end-in}
+use native.Mathlib.Omega.{arith}
+use borrow.Author.Needs.{needs}
+use Rattle.job_records.proofs.record_at.Statement.{statement}
+use Rattle.job_records.proofs.record_at.Tie as tie
+use Rattle.job_records.proofs.record_at.Reads as reads
+use Rattle.job_records.proofs.record_at.Lts as lts
+use Rattle.job_records.proofs.body_at.Reads as body-at-reads
+use Rattle.job_records.proofs.body_length.Reads as body-length-reads
+use Rattle.job_records.proofs.is_known.Reads as is-known-reads
+
+returns : tie.Need-returns
+returns c = search no-byte
+
+shared-slice-read-kind : tie.Need-shared-slice-read-kind
+shared-slice-read-kind c = search needs
+
+body-length-requires : tie.Need-body-length-requires
+body-length-requires c κs = search needs
+
+is-known-requires : tie.Need-is-known-requires
+is-known-requires c κs = search needs
+
+sub-if2 : tie.Need-sub-if2
+sub-if2 c = search needs
+
+body-at-requires : tie.Need-body-at-requires
+body-at-requires c κs = search in-front
+
+add-t15 : tie.Need-add-t15
+add-t15 c = omega (arith, end-in (c .before .before .before .before .before .before .before .args .job .now) (c .before .before .before .before .before .before .before .args .at) (c .before .before .before .body-length .result) (c .before .before .is-known .result) (c .before .before .before .before .before .if1 .left) (c .before .if2 .taken))
+
+add-t16 : tie.Need-add-t16
+add-t16 c = omega (arith, end-in (c .before .before .before .before .before .before .before .args .job .now) (c .before .before .before .before .before .before .before .args .at) (c .before .before .before .body-length .result) (c .before .before .is-known .result) (c .before .before .before .before .before .if1 .left) (c .before .if2 .taken))
+
+returns-2 : tie.Need-returns-2
+returns-2 c = search whole
+
+returns-3 : tie.Need-returns-3
+returns-3 c = search cut
+
+pub record-at-spec : {M : Type 1} → statement M
+record-at-spec =
+    tie.close
+    (tie.spec
+    returns
+    shared-slice-read-kind
+    body-length-requires
+    is-known-requires
+    sub-if2
+    body-at-requires
+    add-t15
+    add-t16
+    returns-2
+    returns-3)

@@ -1,0 +1,8 @@
+pub mod Fresh
+pub mod Answered
+pub mod Room
+pub mod Refusals
+mod Obeyed
+mod Turns
+mod Begins
+mod Examples
