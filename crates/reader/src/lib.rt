@@ -1,6 +1,5 @@
 // A reader of a job: it holds the lent bytes and its place, the offset of the next record.
 // Uses `job_records`.
-use job_records::Record;
 use job_records::Taken;
 use job_records::record_at;
 ghost use mathlib.Core.Path.{_≡_};
@@ -29,15 +28,6 @@ pub fn next<'a>(r: Reader<'a>) -> Taken
     ensures { λ t. ⌜ t ≡ recordAt (now (r .entry .job)) (r .entry .at) ⌝ }
 {
     record_at(r.job, r.at)
-}
-
-// What stands at the reader's place; the reader moves on past it.
-pub fn next_in<'s, 'a>(r: &'s mut Reader<'a>) -> Record
-    ensures { λ t. ⌜ (now (r .exit) .job ≡ now (r .entry) .job) × ((now (r .exit) .at ≡ recordAt (now (now (r .entry) .job)) (now (r .entry) .at) .next) × (t ≡ recordAt (now (now (r .entry) .job)) (now (r .entry) .at) .item)) ⌝ }
-{
-    let t = record_at(r.job, r.at);
-    r.at = t.next;
-    t.item
 }
 
 // What a reader of these bytes finds at an offset.
