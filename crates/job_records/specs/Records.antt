@@ -5,7 +5,6 @@ use mathlib.Core.List.{List}
 use mathlib.Core.Bool.{Bool, cond, _&&_}
 use lib.ListN.{length, getD}
 use lib.Dec.{ltb, leb, eqb}
-use Rattle.places.specs.declared.Sizes.{Sizes}
 use Rattle.machine.specs.declared.Request.the-variants.{AskRead, AskDelete, AskInsert}
 use Rattle.job_records.specs.declared.Record.{Record}
 use Rattle.job_records.specs.declared.Record.the-variants.{Opens, Starts, Steps, Ends, Bad}
@@ -43,6 +42,7 @@ stepAt s at = Steps (byteAt s at 1) (byteAt s at 2)
 unfoldable pub bodyLength : ℕ → ℕ
 bodyLength k = cond (eqb k 1) 4 (cond (eqb k 2) 5 (cond (eqb k 3) 5 (cond (eqb k 4) 9 (cond (eqb k 5) 2 0))))
 
+-- kinds 1 to 6
 unfoldable pub isKnown : ℕ → Bool
 isKnown k = leb 1 k && leb k 6
 
@@ -56,6 +56,7 @@ bodyAt s at k =
     (cond (eqb k 5) (stepAt s at)
     (cond (eqb k 6) Ends Bad)))))
 
+-- no record here, and nothing after it
 abbrev pub bad : ℕ → Taken
 bad at = record { item = Bad; next = at }
 

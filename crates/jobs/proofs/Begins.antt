@@ -2,7 +2,7 @@
 -- Assumes nothing.
 use mathlib.Core.Path.{_≡_, refl, sym, _∙_, ap, subst, subst⁻¹}
 use mathlib.Core.Bool.{Bool, true, false}
-use mathlib.Core.List.{List, [], _∷_, _++_}
+use mathlib.Core.List.{List, _∷_, _++_}
 use Prim.Native.Nat.{ℕ, zero, suc, _+_, _*_, _≤_, _<_}
 use native.Mathlib.Omega.{arith}
 use lib.ListN.{length, take, replicate}
@@ -10,8 +10,6 @@ use borrow.Author.Tests.{lt-ltb, le-ltb}
 use Rattle.places.specs.declared.Sizes.{Sizes}
 use Rattle.places.specs.Table.{Fits, sizesOk, slotCount}
 use Rattle.places.proofs.Limits.{ok-fits, slots-few}
-use Rattle.paths.specs.Path.{pathPlaces}
-use Rattle.machine.specs.Lane.{laneNumbers}
 use Rattle.machine.specs.Standing.{Table}
 use Rattle.machine.specs.declared.Request.{Request}
 use Rattle.standing.specs.Tables.{table}
@@ -24,7 +22,7 @@ use Rattle.job_records.proofs.Whole.{item-long}
 use Rattle.prints.specs.Put.{Put}
 use Rattle.prints.proofs.Puts.{put-then}
 use Rattle.lines.specs.Lines.{sizesLine, refusedLine}
-use Rattle.jobs.specs.Job.{maxBytes, malformed, zeros, jobTable, printFrom, openedPrint, firstPrint, printOf}
+use Rattle.jobs.specs.Job.{zeros, jobTable, printFrom, openedPrint, firstPrint, printOf}
 use Rattle.jobs.proofs.Fresh.{fresh-stood, fresh-is}
 
 -- the front of a list of zeros

@@ -1,21 +1,20 @@
 -- The table of a job is zeros, and stands: no lane has begun, no slot is full.
 -- Assumes nothing.
-use mathlib.Core.Path.{_≡_, refl, sym, _∙_, ap}
-use mathlib.Core.Bool.{Bool, true, false}
+use mathlib.Core.Path.{_≡_, sym, _∙_, ap}
+use mathlib.Core.Bool.{true, false}
 use mathlib.Core.List.{List}
 use Prim.Native.Nat.{ℕ, _+_, _*_}
 use native.Mathlib.Omega.{arith}
-use lib.ListN.{length, replicate, length-replicate}
+use lib.ListN.{replicate, length-replicate}
 use Rattle.lists.proofs.Records.{cell-zeros}
 use Rattle.places.specs.declared.Sizes.{Sizes}
 use Rattle.places.specs.Table.{sizesOk, slotCount}
 use Rattle.slots.specs.declared.Slot.{Slot}
 use Rattle.slots.specs.Slot.{slotAt, emptySlot, isFull, holds}
 use Rattle.slots.specs.Sound.{badShape, sound, openingFault}
-use Rattle.slots.proofs.Facts.{SoundSlots, facts-sound}
+use Rattle.slots.proofs.Facts.{facts-sound}
 use Rattle.paths.specs.Path.{pathPlaces, emptied}
 use Rattle.machine.specs.Lane.{laneNumbers}
-use Rattle.machine.specs.Standing.{Table}
 use Rattle.machine.specs.Desk.{lengthsOk, opened, openingNumber}
 use Rattle.kept.specs.Runs.{Stood}
 use Rattle.kept.proofs.Long.{lengths-ok}

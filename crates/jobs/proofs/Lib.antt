@@ -5,4 +5,5 @@ pub mod Refusals
 mod Obeyed
 mod Turns
 mod Begins
+pub mod Unique
 mod Examples

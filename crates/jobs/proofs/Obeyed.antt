@@ -2,11 +2,9 @@
 -- Assumes nothing.
 use mathlib.Core.Path.{_≡_, refl, sym, _∙_, ap, subst, subst⁻¹}
 use mathlib.Core.Logic.{_≢_}
-use mathlib.Core.Bool.{Bool, true, false}
+use mathlib.Core.Bool.{true, false}
 use mathlib.Core.List.{List, []}
 use Prim.Native.Nat.{ℕ, _+_, _≤_, _<_}
-use native.Mathlib.Omega.{arith}
-use lib.Dec.{ltb}
 use lib.ListN.{length}
 use borrow.Author.Tests.{ne-eqb, lt-ltb, le-ltb}
 use Rattle.places.specs.declared.Sizes.{Sizes}
@@ -16,17 +14,17 @@ use Rattle.machine.specs.declared.Started.{Started}
 use Rattle.machine.specs.declared.Stepped.{Stepped}
 use Rattle.machine.specs.declared.Stepped.the-variants.{StepDone, StepBadSizes, StepBadLengths, StepNotStanding, StepNoLane, StepIdle}
 use Rattle.machine.specs.Standing.{Table}
-use Rattle.machine.specs.Desk.{startAnswer, startNumber, afterStart, answerNumbers, stepAnswer, stepNumbers, afterStep}
+use Rattle.machine.specs.Desk.{startAnswer, startNumber, afterStart, stepAnswer, stepNumbers, afterStep}
 use Rattle.standing.specs.Tables.{table}
 use Rattle.kept.specs.Runs.{Stood}
-use Rattle.desk.specs.Calls.{Calls, Keeps, StartKeeps, StepKeeps}
+use Rattle.desk.specs.Calls.{Calls, StartKeeps, StepKeeps}
 use Rattle.job_records.specs.declared.Record.{Record}
 use Rattle.job_records.specs.declared.Record.the-variants.{Opens, Starts, Steps, Ends, Bad}
 use Rattle.prints.specs.Put.{Put}
 use Rattle.prints.proofs.Puts.{put-none}
 use Rattle.lines.specs.Lines.{answerLine, refusedLine, endLines}
 use Rattle.jobs.specs.declared.Done.{Done}
-use Rattle.jobs.specs.Job.{malformed, Came, goesOn, stopped, refused, answered, steppedLine, startCame, stepCame, endText, cameOf}
+use Rattle.jobs.specs.Job.{goesOn, refused, answered, steppedLine, startCame, stepCame, endText, cameOf}
 use Rattle.jobs.specs.Obeys.{Obeys, Stops}
 use Rattle.jobs.proofs.Answered.{accepted-is, refused-is}
 use Rattle.jobs.proofs.Refusals.{answer-number}

@@ -1,7 +1,7 @@
 -- THEOREM: every table that a job comes to stands, so a record of a job is refused with 6, 7, 8, 10 or 11 and no other number: 2, 3, 4, 5 and 9
 -- can't arise. (1 is the sizes record's, and `zeros-open` says that the opening is accepted.)
 -- Assumes nothing.
-use mathlib.Core.Path.{_≡_, refl, sym, ap, _∙_, subst, subst⁻¹}
+use mathlib.Core.Path.{_≡_, refl, sym, subst, subst⁻¹}
 use mathlib.Core.Bool.{Bool, true, false, cond, not}
 use mathlib.Core.List.{List, []}
 use Prim.Native.Nat.{ℕ}
@@ -22,7 +22,7 @@ use Rattle.kept.proofs.Kept.{kept-start, kept-step}
 use Rattle.job_records.specs.declared.Record.{Record}
 use Rattle.job_records.specs.declared.Record.the-variants.{Opens, Starts, Steps, Ends, Bad}
 use Rattle.job_records.specs.Records.{recordAt}
-use Rattle.jobs.specs.Job.{Came, goesOn, steppedLine, cameOf}
+use Rattle.jobs.specs.Job.{Came, steppedLine, cameOf}
 use Rattle.jobs.specs.Course.{Comes, by-sizes, by-record, recordNumber, recordNumbers, isOneOf}
 use Rattle.jobs.proofs.Answered.{never, goes-accepted}
 use Rattle.jobs.proofs.Fresh.{fresh-stood}

@@ -1,15 +1,15 @@
 -- How long a print is at most: eight bytes for each byte of the job, and what the end of a job prints.
 -- Assumes nothing.
-use mathlib.Core.Path.{_≡_, refl, sym, _∙_, ap, subst}
-use mathlib.Core.Logic.{_⊎_, ⊎-elim}
+use mathlib.Core.Path.{_≡_, refl, sym, _∙_, ap}
+use mathlib.Core.Logic.{⊎-elim}
 use mathlib.Core.Bool.{Bool, true, false, cond}
 use mathlib.Core.List.{List, [], _++_}
 use Prim.Native.Nat.{ℕ, zero, suc, _+_, _*_, _≤_, _<_}
 use native.Mathlib.Omega.{arith}
-use lib.Dec.{eqb, ltb}
+use lib.Dec.{ltb}
 use lib.ListN.{length, length-append}
 use lib.Seq.{length-take-le}
-use borrow.Author.Tests.{eqb-true, ltb-false}
+use borrow.Author.Tests.{ltb-false}
 use Rattle.places.specs.declared.Sizes.{Sizes}
 use Rattle.places.specs.Table.{Fits, sizesOk}
 use Rattle.places.proofs.Limits.{ok-fits}
@@ -22,7 +22,7 @@ use Rattle.kept.proofs.Kept.{step-tested}
 use Rattle.job_records.specs.declared.Record.{Record}
 use Rattle.job_records.specs.declared.Record.the-variants.{Opens, Starts, Steps, Ends, Bad}
 use Rattle.job_records.specs.declared.Taken.{Taken}
-use Rattle.job_records.specs.Records.{bad, recordAt}
+use Rattle.job_records.specs.Records.{recordAt}
 use Rattle.job_records.proofs.Whole.{goes-on, item-long}
 use Rattle.prints.specs.Put.{Put}
 use Rattle.prints.proofs.Puts.{put-length}
@@ -30,7 +30,7 @@ use Rattle.lines.specs.Lines.{sizesLine, refusedLine, endLines}
 use Rattle.lines.proofs.Lengths.{sizes-most, answer-most, refusal-most, end-most}
 use Rattle.jobs.specs.Obeys.{Prints}
 use Rattle.jobs.proofs.Answered.{never, goes-accepted, stops-refused}
-use Rattle.jobs.specs.Job.{maxBytes, outBytes, malformed, jobTable, Came, answered, steppedLine, endText, cameOf, printFrom, openedPrint, firstPrint, printOf}
+use Rattle.jobs.specs.Job.{maxBytes, outBytes, malformed, jobTable, Came, steppedLine, endText, cameOf, printFrom, openedPrint, firstPrint, printOf}
 
 stepped-most : (j : ℕ) (a : Stepped) → j < 10 → length (steppedLine j a) ≤ 23
 stepped-most j (StepDone a) h = answer-most j a h

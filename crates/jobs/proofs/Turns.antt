@@ -1,8 +1,8 @@
 -- The loop over the records: what is printed and what is still to come is the whole print.
 -- Assumes nothing.
-use mathlib.Core.Path.{_≡_, refl, sym, _∙_, ap, subst, subst⁻¹}
-use mathlib.Core.Bool.{Bool, true, false, not}
-use mathlib.Core.List.{List, _++_, append-nil}
+use mathlib.Core.Path.{_≡_, sym, _∙_, subst, subst⁻¹}
+use mathlib.Core.Bool.{true, false, not}
+use mathlib.Core.List.{List, append-nil}
 use Prim.Native.Nat.{ℕ, zero, suc, _+_, _*_, _≤_, _<_}
 use native.Mathlib.Omega.{arith}
 use lib.ListN.{length}
@@ -15,7 +15,7 @@ use Rattle.job_records.specs.Records.{recordAt}
 use Rattle.prints.specs.Put.{Put}
 use Rattle.prints.proofs.Puts.{Amid, amid-start, amid-more, amid-end}
 use Rattle.jobs.specs.declared.Done.{Done}
-use Rattle.jobs.specs.Job.{Came, cameOf, printFrom}
+use Rattle.jobs.specs.Job.{cameOf, printFrom}
 use Rattle.jobs.specs.Obeys.{Obeys}
 use Rattle.jobs.proofs.Room.{goes-room, print-goes, print-stops}
 

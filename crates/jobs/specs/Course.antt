@@ -31,6 +31,7 @@ recordNumber z t Bad = malformed
 abbrev pub recordNumbers : List ℕ
 recordNumbers = 0 ∷ 6 ∷ 7 ∷ 8 ∷ 10 ∷ 11 ∷ []
 
+-- n stands in the list
 abbrev pub isOneOf : ℕ → List ℕ → Bool
 isOneOf n [] = false
 isOneOf n (m ∷ ms) = eqb n m || isOneOf n ms

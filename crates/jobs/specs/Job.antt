@@ -41,6 +41,7 @@ zeros z =
       path = replicate (pathPlaces z * 3) 0;
     }
 
+-- "An accepted opening clears locks, lanes and path and leaves the slots alone"
 abbrev pub jobTable : Sizes → Table
 jobTable z = afterOpening z (zeros z)
 
@@ -50,6 +51,7 @@ pub record Came : Type 0 where
   pub text : List ℕ
   pub table : Table
 
+-- the job goes on after this text
 abbrev pub goesOn : List ℕ → Table → Came
 goesOn text t = record { goes = true; text = text; table = t }
 
@@ -82,6 +84,7 @@ endText z xs s at = cond (ltb (at + 1) (length s)) (refusedLine malformed (at + 
 abbrev pub startCame : Sizes → Table → ℕ → ℕ → Request → Came
 startCame z t at j r = answered (startNumber (startAnswer z t j r)) at (goesOn [] (afterStart z t j r)) t
 
+-- "A step answers that the lane goes on, or its end with the result"
 abbrev pub stepCame : Sizes → Table → ℕ → ℕ → ℕ → Came
 stepCame z t at j byte =
     answered (stepNumbers (stepAnswer z t j byte) .number) at (goesOn (steppedLine j (stepAnswer z t j byte)) (afterStep z t j byte)) t

@@ -1,5 +1,6 @@
 // One record: what it does to the table, and what it prints.
 use super::Done;
+use super::MALFORMED;
 use desk::start_standing;
 use desk::step_standing;
 use job_records::Record;
@@ -143,7 +144,7 @@ fn finish(z: Sizes, slots: &[u32], job: &[u8], at: usize, out: &mut [u8], n: usi
     ensures { λ r. ⌜ Stops r n (now (out .entry)) (now (out .exit)) (endText z (now (slots .entry)) (now (job .entry)) at) ⌝ }
 {
     if at + 1 < job.len() {
-        return refuse(out, n, 11, at + 1);
+        return refuse(out, n, MALFORMED, at + 1);
     }
     let next = put_end(out, n, z, slots);
     Done { next, goes: false }
@@ -168,10 +169,10 @@ pub fn obey(
     ensures { λ r. ⌜ Obeys z r n (now (out .entry)) (now (out .exit)) (table (now (slots .exit)) (now (locks .exit)) (now (lanes .exit)) (now (path .exit))) (cameOf z (table (now (slots .entry)) (now (locks .entry)) (now (lanes .entry)) (now (path .entry))) (now (job .entry)) at item) ⌝ }
 {
     match item {
-        Record::Opens(_) => refuse(out, n, 11, at),
+        Record::Opens(_) => refuse(out, n, MALFORMED, at),
         Record::Starts(j, request) => begin(z, slots, locks, lanes, path, at, out, n, j, request),
         Record::Steps(j, byte) => advance(z, slots, locks, lanes, path, at, out, n, j, byte),
         Record::Ends => finish(z, slots, job, at, out, n),
-        Record::Bad => refuse(out, n, 11, at),
+        Record::Bad => refuse(out, n, MALFORMED, at),
     }
 }

@@ -1,4 +1,5 @@
-// What a job prints. Uses `desk`, `reader`, `lines` and what stands below them.
+// The run of a job: its records, one after the other, over a table in local memory, and what they print.
+// Uses `desk` for the table, `job_records` for the records and `lines` for the print.
 mod doing;
 
 use doing::obey;
@@ -29,7 +30,21 @@ pub const MAX_BYTES: usize = 60000;
 // No print is longer.
 pub const OUT_BYTES: usize = 524288;
 
-// The lent bytes that a job has used so far: the offset after what was printed; and whether the job goes on.
+// The refusals that a job gives by itself.
+const BAD_SIZES: u32 = 1;
+
+const MALFORMED: u32 = 11;
+
+// Memory for the largest sizes: 64 rows of 8 columns, 64 row locks and main, 8 lanes, 66 places.
+const SLOT_NUMBERS: usize = 1536;
+
+const LOCK_NUMBERS: usize = 130;
+
+const LANES_NUMBERS: usize = 112;
+
+const PATH_NUMBERS: usize = 198;
+
+// What a record has done: the offset after what was printed, and whether the job goes on.
 pub struct Done {
     pub next: usize,
     pub goes: bool,
@@ -78,10 +93,10 @@ fn run_table(z: Sizes, job: &[u8], from: usize, out: &mut [u8]) -> usize
     requires { ⌜ outBytes ≤ length (now out) ⌝ }
     ensures { λ r. ⌜ Put r 0 (now (out .entry)) (now (out .exit)) (sizesLine z ++ printFrom (length (now (job .entry))) z (jobTable z) (now (job .entry)) from) ⌝ }
 {
-    let mut slots = [0u32; 1536];
-    let mut locks = [0u32; 130];
-    let mut lanes = [0u32; 112];
-    let mut path = [0u32; 198];
+    let mut slots = [0u32; SLOT_NUMBERS];
+    let mut locks = [0u32; LOCK_NUMBERS];
+    let mut lanes = [0u32; LANES_NUMBERS];
+    let mut path = [0u32; PATH_NUMBERS];
     let slots_end = slot_count(z) * 3;
     let locks_end = ((z.locks as usize) + 1) * 2;
     let lanes_end = (z.lanes as usize) * LANE_NUMBERS;
@@ -111,7 +126,7 @@ fn run_sizes(z: Sizes, job: &[u8], from: usize, out: &mut [u8]) -> usize
     if sizes_ok(z) {
         run_table(z, job, from, out)
     } else {
-        put_refusal(out, 0, 1, 0)
+        put_refusal(out, 0, BAD_SIZES, 0)
     }
 }
 
@@ -120,16 +135,16 @@ pub fn run(job: &[u8], out: &mut [u8; OUT_BYTES]) -> usize
     ensures { λ r. ⌜ Prints r (now (out .entry)) (now (out .exit)) (printOf (now (job .entry))) ⌝ }
 {
     if MAX_BYTES < job.len() {
-        return put_refusal(out, 0, 11, 60000);
+        return put_refusal(out, 0, MALFORMED, MAX_BYTES as u32);
     }
     let first = take(job, 0);
     let item = first.item;
     let next = first.next;
     match item {
         Record::Opens(z) => run_sizes(z, job, next, out),
-        Record::Starts(_, _) => put_refusal(out, 0, 11, 0),
-        Record::Steps(_, _) => put_refusal(out, 0, 11, 0),
-        Record::Ends => put_refusal(out, 0, 11, 0),
-        Record::Bad => put_refusal(out, 0, 11, 0),
+        Record::Starts(_, _) => put_refusal(out, 0, MALFORMED, 0),
+        Record::Steps(_, _) => put_refusal(out, 0, MALFORMED, 0),
+        Record::Ends => put_refusal(out, 0, MALFORMED, 0),
+        Record::Bad => put_refusal(out, 0, MALFORMED, 0),
     }
 }

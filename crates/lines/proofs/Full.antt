@@ -1,11 +1,10 @@
 -- The full slots, one after the other: a turn of the loop that prints them.
 -- Assumes nothing.
-use mathlib.Core.Path.{_≡_, refl, sym, ap, _∙_}
-use mathlib.Core.Bool.{Bool, true, false, cond}
-use mathlib.Core.List.{List, [], _++_}
-use Prim.Native.Nat.{ℕ, zero, suc, _+_, _-_, _*_, _≤_, _<_, _/_, _%_}
+use mathlib.Core.Path.{_≡_, sym, _∙_}
+use mathlib.Core.Bool.{Bool, true, false}
+use mathlib.Core.List.{List, _++_}
+use Prim.Native.Nat.{ℕ, suc, _+_, _-_, _≤_, _<_, _/_, _%_}
 use native.Mathlib.Omega.{arith}
-use lib.ListN.{length}
 use Rattle.places.specs.declared.Sizes.{Sizes}
 use Rattle.places.specs.Table.{rowAt, slotCount}
 use Rattle.slots.specs.declared.Slot.{Slot}

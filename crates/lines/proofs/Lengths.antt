@@ -1,7 +1,7 @@
 -- How long a line is at most.
 -- Assumes nothing.
 use mathlib.Core.Bool.{Bool, true, false, cond}
-use mathlib.Core.List.{List, [], _++_}
+use mathlib.Core.List.{List, []}
 use Prim.Native.Nat.{ℕ, zero, suc, _+_, _*_, _≤_, _<_, _%_}
 use native.Mathlib.Omega.{arith}
 use lib.ListN.{length, length-append}
@@ -12,7 +12,7 @@ use Rattle.slots.specs.declared.Slot.{Slot}
 use Rattle.slots.specs.Slot.{slotAt, isFull}
 use Rattle.machine.specs.declared.Answer.{Answer}
 use Rattle.machine.specs.declared.Answer.the-variants.{GoesOn, ReadNone, ReadValue, Deleted, InsertYes, InsertSearched, InsertWalked}
-use Rattle.prints.specs.Text.{textBytes, decimal, strokeOf}
+use Rattle.prints.specs.Text.{textBytes, decimal}
 use Rattle.prints.proofs.Numbers.{decimal-few, decimal-most}
 use Rattle.prints.proofs.Strokes.{stroke-length}
 use Rattle.lines.specs.Lines.{sizesLine, laneLine, valueLine, answerLine, refusedLine, placeText, pairLine, slotLine, slotLinesFrom, slotLines, endLines}

@@ -16,6 +16,7 @@ use Rattle.prints.specs.Text.{textBytes, decimal, strokeOf}
 abbrev pub with : String → ℕ → List ℕ
 with word n = textBytes word ++ decimal n
 
+-- "each line ended by a newline"
 abbrev pub newline : List ℕ
 newline = textBytes "\n"
 
@@ -62,6 +63,7 @@ unfoldable pub slotLinesFrom : Sizes → List ℕ → ℕ → ℕ → List ℕ
 slotLinesFrom z xs zero i = []
 slotLinesFrom z xs (suc k) i = slotLine z i (slotAt xs i) ++ slotLinesFrom z xs k (suc i)
 
+-- all of them
 abbrev pub slotLines : Sizes → List ℕ → List ℕ
 slotLines z xs = slotLinesFrom z xs (slotCount z) 0
 

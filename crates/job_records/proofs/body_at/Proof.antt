@@ -1,15 +1,10 @@
-use Rattle.job_records.specs.Records.{bodyAt}
+-- `body_at` is its definition, by the kind; the length of the body says that its bytes are there.
+-- Assumes nothing.
 use borrow.Author.Tests.{ne-eqb}
+use Rattle.job_records.specs.Records.{bodyAt}
 use Rattle.job_records.proofs.Bodies.{of-1, of-2, of-3, of-4, of-5, of-6, len-1, len-2, len-3, len-4, len-5}
 use Rattle.job_records.proofs.body_at.Statement.{statement}
 use Rattle.job_records.proofs.body_at.Tie as tie
-use Rattle.job_records.proofs.body_at.Reads as reads
-use Rattle.job_records.proofs.body_at.Lts as lts
-use Rattle.job_records.proofs.delete_at.Reads as delete-at-reads
-use Rattle.job_records.proofs.insert_at.Reads as insert-at-reads
-use Rattle.job_records.proofs.read_at.Reads as read-at-reads
-use Rattle.job_records.proofs.sizes_at.Reads as sizes-at-reads
-use Rattle.job_records.proofs.step_at.Reads as step-at-reads
 
 sizes-at-requires : tie.Need-sizes-at-requires
 sizes-at-requires c κs = search len-1

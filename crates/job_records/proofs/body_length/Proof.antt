@@ -1,9 +1,9 @@
+-- `body_length` is its definition, by the kind.
+-- Assumes nothing.
 use borrow.Author.Tests.{ne-eqb}
 use Rattle.job_records.specs.Records.{bodyLength}
 use Rattle.job_records.proofs.body_length.Statement.{statement}
 use Rattle.job_records.proofs.body_length.Tie as tie
-use Rattle.job_records.proofs.body_length.Reads as reads
-use Rattle.job_records.proofs.body_length.Lts as lts
 
 returns : tie.Need-returns
 unfolding bodyLength

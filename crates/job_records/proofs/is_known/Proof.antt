@@ -1,9 +1,9 @@
-use Rattle.job_records.specs.Records.{isKnown}
+-- `is_known` is its definition: two tests.
+-- Assumes nothing.
 use borrow.Author.Needs.{needs}
+use Rattle.job_records.specs.Records.{isKnown}
 use Rattle.job_records.proofs.is_known.Statement.{statement}
 use Rattle.job_records.proofs.is_known.Tie as tie
-use Rattle.job_records.proofs.is_known.Reads as reads
-use Rattle.job_records.proofs.is_known.Lts as lts
 
 returns : tie.Need-returns
 unfolding isKnown

@@ -1,10 +1,9 @@
-use Rattle.job_records.specs.Records.{number}
+-- `number_at` is its definition: four bytes below 256 make a number of 32 bits.
+-- Assumes nothing.
 use borrow.Author.Needs.{needs}
+use Rattle.job_records.specs.Records.{number}
 use Rattle.job_records.proofs.number_at.Statement.{statement}
 use Rattle.job_records.proofs.number_at.Tie as tie
-use Rattle.job_records.proofs.number_at.Reads as reads
-use Rattle.job_records.proofs.number_at.Lts as lts
-use Rattle.job_records.proofs.wide.Reads as wide-reads
 
 shared-slice-read-wide : tie.Need-shared-slice-read-wide
 shared-slice-read-wide c = search needs

@@ -1,13 +1,10 @@
-use Rattle.job_records.proofs.Whole.{no-byte, whole, cut, in-front, end-in}
+-- `record_at` is its definition: no byte, a whole record, or one that is cut short or unknown.
+-- Assumes nothing.
 use native.Mathlib.Omega.{arith}
 use borrow.Author.Needs.{needs}
+use Rattle.job_records.proofs.Whole.{no-byte, whole, cut, in-front, end-in}
 use Rattle.job_records.proofs.record_at.Statement.{statement}
 use Rattle.job_records.proofs.record_at.Tie as tie
-use Rattle.job_records.proofs.record_at.Reads as reads
-use Rattle.job_records.proofs.record_at.Lts as lts
-use Rattle.job_records.proofs.body_at.Reads as body-at-reads
-use Rattle.job_records.proofs.body_length.Reads as body-length-reads
-use Rattle.job_records.proofs.is_known.Reads as is-known-reads
 
 returns : tie.Need-returns
 returns c = search no-byte

@@ -1,60 +1,46 @@
-use Rattle.job_records.proofs.Bodies.{sizes-is}
+-- `sizes_at` is its definition, byte by byte.
+-- Assumes nothing.
 use borrow.Author.Needs.{needs}
+use Rattle.job_records.proofs.Bodies.{sizes-is}
 use Rattle.job_records.proofs.sizes_at.Statement.{statement}
 use Rattle.job_records.proofs.sizes_at.Tie as tie
-use Rattle.job_records.proofs.sizes_at.Reads as reads
-use Rattle.job_records.proofs.sizes_at.Lts as lts
-use Rattle.job_records.proofs.wide.Reads as wide-reads
 
--- src/lib.rt:51:25
 add-wide : tie.Need-add-wide
 add-wide c = search needs
 
--- src/lib.rt:51:21
 shared-slice-read-wide : tie.Need-shared-slice-read-wide
 shared-slice-read-wide c = search needs
 
--- src/lib.rt:51:9
 wide-requires : tie.Need-wide-requires
 wide-requires c κs = search needs
 
--- src/lib.rt:52:28
 add-wide-2 : tie.Need-add-wide-2
 add-wide-2 c = search needs
 
--- src/lib.rt:52:24
 shared-slice-read-wide-2 : tie.Need-shared-slice-read-wide-2
 shared-slice-read-wide-2 c = search needs
 
--- src/lib.rt:52:9
 wide-requires-2 : tie.Need-wide-requires-2
 wide-requires-2 c κs = search needs
 
--- src/lib.rt:53:26
 add-wide-3 : tie.Need-add-wide-3
 add-wide-3 c = search needs
 
--- src/lib.rt:53:22
 shared-slice-read-wide-3 : tie.Need-shared-slice-read-wide-3
 shared-slice-read-wide-3 c = search needs
 
--- src/lib.rt:53:9
 wide-requires-3 : tie.Need-wide-requires-3
 wide-requires-3 c κs = search needs
 
--- src/lib.rt:54:26
 add-wide-4 : tie.Need-add-wide-4
 add-wide-4 c = search needs
 
--- src/lib.rt:54:22
 shared-slice-read-wide-4 : tie.Need-shared-slice-read-wide-4
 shared-slice-read-wide-4 c = search needs
 
--- src/lib.rt:54:9
 wide-requires-4 : tie.Need-wide-requires-4
 wide-requires-4 c κs = search needs
 
--- src/lib.rt:47:1
 returns : tie.Need-returns
 returns c = search sizes-is
 

@@ -1,18 +1,16 @@
+-- `run_records` puts what is printed from an offset on: what is printed so far and what the records left print are the whole. Each record
+-- that goes on lies further on in the job.
+-- Assumes nothing.
 use mathlib.Core.Path.{_≡_, refl}
-use Rattle.jobs.proofs.Turns.{Left, left-start, left-stops, left-goes, left-less}
-use Rattle.jobs.specs.Job.{printFrom}
-use Rattle.standing.specs.Tables.{table}
 use lib.ListN.{length}
-use mathlib.Core.Path.{_≡_}
 use Prim.Native.Nat.{_-_}
 use borrow.Author.Needs.{needs}
 use native.Mathlib.Omega.{arith}
+use Rattle.jobs.proofs.Turns.{Left, left-start, left-stops, left-goes, left-less}
+use Rattle.jobs.specs.Job.{printFrom}
+use Rattle.standing.specs.Tables.{table}
 use Rattle.jobs.proofs.run_records.Statement.{statement}
 use Rattle.jobs.proofs.run_records.Tie as tie
-use Rattle.jobs.proofs.run_records.Reads as reads
-use Rattle.jobs.proofs.run_records.Lts as lts
-use Rattle.reader.proofs.take.Reads as take-reads
-use Rattle.jobs.proofs.doing.obey.Reads as obey-reads
 
 abbrev Inv-loop : tie.InvT-loop
 Inv-loop z slots₀ locks₀ lanes₀ path₀ job from out₀ start at₀ n₀ slots locks lanes path out at n =
@@ -22,47 +20,36 @@ Inv-loop z slots₀ locks₀ lanes₀ path₀ job from out₀ start at₀ n₀ s
 abbrev μ-loop : tie.MeasureT-loop
 μ-loop z slots₀ locks₀ lanes₀ path₀ job from out₀ start at₀ n₀ slots locks lanes path out at n = length job - at
 
--- src/lib.rt:54:5
 loop-holds : tie.Need-loop-holds Inv-loop μ-loop
 loop-holds c = (left-start _ _ _ _ _ _ (c .before .before .before .before .before .before .pre .0) (omega arith) (omega arith) (omega arith), refl, refl, refl, refl, refl)
 
--- src/lib.rt:55:13
 take-requires : tie.Need-take-requires Inv-loop μ-loop
 take-requires c κs = search needs
 
--- src/lib.rt:57:13
 obey-requires : tie.Need-obey-requires Inv-loop μ-loop
 obey-requires c κs = (c .before .before .before .before .before .before .loop .inv .0 .stood, (omega arith, omega arith))
 
--- src/lib.rt:60:13
 same-length : tie.Need-same-length Inv-loop μ-loop
 same-length c = omega arith
 
--- src/lib.rt:60:13
 same-length-2 : tie.Need-same-length-2 Inv-loop μ-loop
 same-length-2 c = omega arith
 
--- src/lib.rt:60:13
 same-length-3 : tie.Need-same-length-3 Inv-loop μ-loop
 same-length-3 c = omega arith
 
--- src/lib.rt:60:13
 same-length-4 : tie.Need-same-length-4 Inv-loop μ-loop
 same-length-4 c = omega arith
 
--- src/lib.rt:60:13
 same-length-5 : tie.Need-same-length-5 Inv-loop μ-loop
 same-length-5 c = omega arith
 
--- src/lib.rt:60:13
 returns : tie.Need-returns Inv-loop μ-loop
 returns c = left-stops _ _ _ _ _ _ _ _ _ _ _ _ _ (c .before .before .before .before .before .before .before .before .before .before .before .before .before .before .before .before .before .before .before .loop .inv .0) (c .before .before .before .before .before .before .before .before .before .before .before .before .before .before .before .before .before .before .take .ensures) (c .before .before .before .before .before .before .before .before .before .before .before .before .obey .ensures) (c .if1 .taken)
 
--- src/lib.rt:54:5
 loop-less : tie.Need-loop-less Inv-loop μ-loop
 loop-less c = omega (arith, left-less _ _ _ _ _ _ _ _ _ _ _ _ _ (c .before .before .before .before .before .before .before .before .before .before .before .before .before .before .before .before .before .before .before .loop .inv .0) (c .before .before .before .before .before .before .before .before .before .before .before .before .before .before .before .before .before .before .take .ensures) (c .before .before .before .before .before .before .before .before .before .before .before .before .obey .ensures) (c .if1 .left), left-goes _ _ _ _ _ _ _ _ _ _ _ _ _ (c .before .before .before .before .before .before .before .before .before .before .before .before .before .before .before .before .before .before .before .loop .inv .0) (c .before .before .before .before .before .before .before .before .before .before .before .before .before .before .before .before .before .before .take .ensures) (c .before .before .before .before .before .before .before .before .before .before .before .before .obey .ensures) (c .if1 .left) .inside)
 
--- src/lib.rt:54:5
 loop-again : tie.Need-loop-again Inv-loop μ-loop
 loop-again c = (left-goes _ _ _ _ _ _ _ _ _ _ _ _ _ (c .before .before .before .before .before .before .before .before .before .before .before .before .before .before .before .before .before .before .before .loop .inv .0) (c .before .before .before .before .before .before .before .before .before .before .before .before .before .before .before .before .before .before .take .ensures) (c .before .before .before .before .before .before .before .before .before .before .before .before .obey .ensures) (c .if1 .left), omega arith, omega arith, omega arith, omega arith, omega arith)
 

@@ -1,42 +1,31 @@
-use Rattle.lines.proofs.Joined.{place-joined}
-use native.Mathlib.Omega.{arith}
+-- `put_place` puts its pieces one after the other.
+-- Assumes nothing.
 use borrow.Author.Needs.{needs}
+use Rattle.lines.proofs.Joined.{place-joined}
 use Rattle.lines.proofs.put_place.Statement.{statement}
 use Rattle.lines.proofs.put_place.Tie as tie
-use Rattle.lines.proofs.put_place.Reads as reads
-use Rattle.lines.proofs.put_place.Lts as lts
-use Rattle.prints.proofs.put_labelled.Reads as put-labelled-reads
-use Rattle.prints.proofs.put_text.Reads as put-text-reads
 
--- src/lib.rt:78:35
 slice-aggregate-put-labelled : tie.Need-slice-aggregate-put-labelled
 slice-aggregate-put-labelled c = search needs
 
--- src/lib.rt:78:9
 put-labelled-requires : tie.Need-put-labelled-requires
 put-labelled-requires c κs = search needs
 
--- src/lib.rt:79:34
 slice-aggregate-put-labelled-2 : tie.Need-slice-aggregate-put-labelled-2
 slice-aggregate-put-labelled-2 c = search needs
 
--- src/lib.rt:79:9
 put-labelled-requires-2 : tie.Need-put-labelled-requires-2
 put-labelled-requires-2 c κs = search needs
 
--- src/lib.rt:80:22
 slice-aggregate-put-text : tie.Need-slice-aggregate-put-text
 slice-aggregate-put-text c = search needs
 
--- src/lib.rt:80:5
 put-text-requires : tie.Need-put-text-requires
 put-text-requires c κs = search needs
 
--- src/lib.rt:73:1
 same-length : tie.Need-same-length
 same-length c = search needs
 
--- src/lib.rt:73:1
 returns : tie.Need-returns
 returns c = search place-joined
 

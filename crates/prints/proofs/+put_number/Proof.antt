@@ -1,10 +1,12 @@
+-- `put_number` puts the digits of the tenth, and the last digit after them. It ends because the tenth is less.
+-- Assumes nothing.
 use mathlib.Core.Path.{_∙_}
 use native.Mathlib.Omega.{arith}
-use Rattle.prints.proofs.Puts.{put-length}
-use Rattle.prints.proofs.Numbers.{room-few, room-tenth, room-last, number-few, number-more}
 use Prim.Native.Nat.{ℕ, _<_}
 use borrow.Fn.Kinds.{In}
 use borrow.Fn.PlainCycle.{Measures, is, falls, and}
+use Rattle.prints.proofs.Puts.{put-length}
+use Rattle.prints.proofs.Numbers.{room-few, room-tenth, room-last, number-few, number-more}
 use Rattle.prints.proofs.put_number.Reads as put-number
 use Rattle.prints.proofs.put_number.Kinds as put-number-kinds
 use Rattle.prints.proofs.+put_number.Lts-put_number as put-number-lts
@@ -23,7 +25,6 @@ abbrev put-number-below : ℕ → In 1 put-number-kinds.ps
 put-number-below t =
     and 1 put-number-kinds.ps (falls 1 put-number-kinds.ps _<_ μ-put-number t) put-number.Pre
 
--- src/lib.rt:41:40
 put-number-cast-put-byte : (t : ℕ) → put-number-lts.Need-cast-put-byte (
   put-byte-reads.Asked,
   put-byte-reads.Learnt,
@@ -32,7 +33,6 @@ put-number-cast-put-byte : (t : ℕ) → put-number-lts.Need-cast-put-byte (
 ) (put-number-at t) put-number.Post
 put-number-cast-put-byte t c = omega arith
 
--- src/lib.rt:41:34
 put-number-add-put-byte : (t : ℕ) → put-number-lts.Need-add-put-byte (
   put-byte-reads.Asked,
   put-byte-reads.Learnt,
@@ -41,16 +41,15 @@ put-number-add-put-byte : (t : ℕ) → put-number-lts.Need-add-put-byte (
 ) (put-number-at t) put-number.Post
 put-number-add-put-byte t c = omega arith
 
--- src/lib.rt:41:9
 put-number-put-byte-requires : (t : ℕ) → put-number-lts.Need-put-byte-requires (
   put-byte-reads.Asked,
   put-byte-reads.Learnt,
   put-number-below t,
   put-number.Post,
 ) (put-number-at t) put-number.Post
-put-number-put-byte-requires t c κs = search room-few
+put-number-put-byte-requires t c κs =
+    let b = c .before .before .before in room-few (b .args .n) (b .args .at) _ (omega arith) (b .pre .1)
 
--- src/lib.rt:41:9
 put-number-same-length : (t : ℕ) → put-number-lts.Need-same-length (
   put-byte-reads.Asked,
   put-byte-reads.Learnt,
@@ -59,7 +58,6 @@ put-number-same-length : (t : ℕ) → put-number-lts.Need-same-length (
 ) (put-number-at t) put-number.Post
 put-number-same-length t c = put-length (c .before .before .put-byte .ensures)
 
--- src/lib.rt:41:9
 put-number-returns : (t : ℕ) → put-number-lts.Need-returns (
   put-byte-reads.Asked,
   put-byte-reads.Learnt,
@@ -68,7 +66,6 @@ put-number-returns : (t : ℕ) → put-number-lts.Need-returns (
 ) (put-number-at t) put-number.Post
 put-number-returns t c = number-few _ _ _ _ _ (omega arith) (c .before .before .put-byte .ensures)
 
--- src/lib.rt:43:9
 put-number-put-number-requires : (t : ℕ) → put-number-lts.Need-put-number-requires (
   put-byte-reads.Asked,
   put-byte-reads.Learnt,
@@ -79,7 +76,6 @@ put-number-put-number-requires t c κs =
     let b = c .before .before .before in
     (omega arith, room-tenth (b .args .n) (b .args .at) _ (omega arith) (omega arith) (b .pre .1))
 
--- src/lib.rt:44:31
 put-number-cast-put-byte-2 : (t : ℕ) → put-number-lts.Need-cast-put-byte-2 (
   put-byte-reads.Asked,
   put-byte-reads.Learnt,
@@ -88,7 +84,6 @@ put-number-cast-put-byte-2 : (t : ℕ) → put-number-lts.Need-cast-put-byte-2 (
 ) (put-number-at t) put-number.Post
 put-number-cast-put-byte-2 t c = omega arith
 
--- src/lib.rt:44:25
 put-number-add-put-byte-2 : (t : ℕ) → put-number-lts.Need-add-put-byte-2 (
   put-byte-reads.Asked,
   put-byte-reads.Learnt,
@@ -97,7 +92,6 @@ put-number-add-put-byte-2 : (t : ℕ) → put-number-lts.Need-add-put-byte-2 (
 ) (put-number-at t) put-number.Post
 put-number-add-put-byte-2 t c = omega arith
 
--- src/lib.rt:44:5
 put-number-put-byte-requires-2 : (t : ℕ) → put-number-lts.Need-put-byte-requires-2 (
   put-byte-reads.Asked,
   put-byte-reads.Learnt,
@@ -106,7 +100,6 @@ put-number-put-byte-requires-2 : (t : ℕ) → put-number-lts.Need-put-byte-requ
 ) (put-number-at t) put-number.Post
 put-number-put-byte-requires-2 t c κs = search room-last
 
--- src/lib.rt:36:1
 put-number-same-length-2 : (t : ℕ) → put-number-lts.Need-same-length-2 (
   put-byte-reads.Asked,
   put-byte-reads.Learnt,
@@ -115,7 +108,6 @@ put-number-same-length-2 : (t : ℕ) → put-number-lts.Need-same-length-2 (
 ) (put-number-at t) put-number.Post
 put-number-same-length-2 t c = put-length (c .before .before .put-byte2 .ensures) ∙ put-length (c .before .before .before .before .before .before .put-number .ensures)
 
--- src/lib.rt:36:1
 put-number-returns-2 : (t : ℕ) → put-number-lts.Need-returns-2 (
   put-byte-reads.Asked,
   put-byte-reads.Learnt,

@@ -1,20 +1,17 @@
-use Rattle.prints.specs.Text.{letters}
+-- `key_character` is the letter at the bit number, or the dot: the constant array is the row of letters.
+-- Assumes nothing.
 use borrow.Author.Needs.{needs}
+use Rattle.prints.specs.Text.{letters}
 use Rattle.prints.proofs.key_character.Statement.{statement}
 use Rattle.prints.proofs.key_character.Tie as tie
-use Rattle.prints.proofs.key_character.Reads as reads
-use Rattle.prints.proofs.key_character.Lts as lts
 
--- src/lib.rt:52:15
 array-read-result : tie.Need-array-read-result
 array-read-result c = search needs
 
--- src/lib.rt:48:1
 returns : tie.Need-returns
 unfolding letters
 returns c = rw (c .if1 .taken)
 
--- src/lib.rt:48:1
 returns-2 : tie.Need-returns-2
 returns-2 c = search needs
 

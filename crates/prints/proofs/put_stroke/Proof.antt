@@ -1,16 +1,13 @@
-use Rattle.prints.proofs.Strokes.{stroke-end}
-use Rattle.prints.proofs.Puts.{amid-first}
-use Rattle.prints.proofs.Strokes.{stroke-more}
-use Rattle.prints.proofs.Puts.{Amid, amid-start, amid-end, amid-length}
-use Rattle.prints.specs.Text.{letters, strokeFrom, strokeOf}
-use lib.ListN.{length, drop}
+-- `put_stroke` puts the stroke: the characters so far and those of the bits that are left are the whole stroke.
+-- Assumes nothing.
+use lib.ListN.{drop}
 use Prim.Native.Nat.{_+_, _-_, _≤_}
 use native.Mathlib.Omega.{arith}
+use Rattle.prints.proofs.Strokes.{stroke-end, stroke-more}
+use Rattle.prints.proofs.Puts.{amid-first, Amid, amid-length}
+use Rattle.prints.specs.Text.{letters, strokeFrom, strokeOf}
 use Rattle.prints.proofs.put_stroke.Statement.{statement}
 use Rattle.prints.proofs.put_stroke.Tie as tie
-use Rattle.prints.proofs.put_stroke.Reads as reads
-use Rattle.prints.proofs.put_stroke.Lts as lts
-use Rattle.prints.proofs.key_character.Reads as key-character-reads
 
 abbrev Inv-loop : tie.InvT-loop
 Inv-loop out₀ at key rest₀ i₀ out rest i = (i ≤ 23) × Amid (at + i) at out₀ out (strokeFrom (drop i letters) rest) (strokeOf key)
@@ -18,43 +15,33 @@ Inv-loop out₀ at key rest₀ i₀ out rest i = (i ≤ 23) × Amid (at + i) at 
 abbrev μ-loop : tie.MeasureT-loop
 μ-loop out₀ at key rest₀ i₀ out rest i = 23 - i
 
--- src/lib.rt:62:5
 loop-holds : tie.Need-loop-holds Inv-loop μ-loop
 loop-holds c = (omega arith, amid-first _ _ _)
 
--- src/lib.rt:63:23
 key-character-requires : tie.Need-key-character-requires Inv-loop μ-loop
 key-character-requires c κs = omega arith
 
--- src/lib.rt:63:13
 add-out : tie.Need-add-out Inv-loop μ-loop
 add-out c = omega arith
 
--- src/lib.rt:63:9
 slice-write-out : tie.Need-slice-write-out Inv-loop μ-loop
 slice-write-out c = omega (arith, amid-length (c .before .before .loop .inv .1))
 
--- src/lib.rt:65:9
 add-i : tie.Need-add-i Inv-loop μ-loop
 add-i c = omega arith
 
--- src/lib.rt:62:5
 loop-less : tie.Need-loop-less Inv-loop μ-loop
 loop-less c = omega arith
 
--- src/lib.rt:62:5
 loop-again : tie.Need-loop-again Inv-loop μ-loop
 loop-again c = (omega arith, search stroke-more)
 
--- src/lib.rt:67:5
 add-result : tie.Need-add-result Inv-loop μ-loop
 add-result c = omega arith
 
--- src/lib.rt:56:1
 same-length : tie.Need-same-length Inv-loop μ-loop
 same-length c = amid-length (c .before .loop .inv .1)
 
--- src/lib.rt:56:1
 returns : tie.Need-returns Inv-loop μ-loop
 returns c = search stroke-end
 

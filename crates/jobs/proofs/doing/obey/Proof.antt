@@ -1,130 +1,97 @@
+-- `obey` does what the record comes to, one law for each kind. What stands has slots of the right length.
+-- Assumes nothing.
+use native.Mathlib.Omega.{arith}
+use borrow.Author.Needs.{needs}
 use Rattle.kept.proofs.Long.{lengths-of}
 use Rattle.places.proofs.Limits.{ok-fits}
-use native.Mathlib.Omega.{arith}
 use Rattle.jobs.proofs.Obeyed.{on-sizes, on-start, on-step, on-end, on-bad}
-use borrow.Author.Needs.{needs}
 use Rattle.jobs.proofs.doing.obey.Statement.{statement}
 use Rattle.jobs.proofs.doing.obey.Tie as tie
-use Rattle.jobs.proofs.doing.obey.Reads as reads
-use Rattle.jobs.proofs.doing.obey.Lts as lts
-use Rattle.jobs.proofs.doing.advance.Reads as advance-reads
-use Rattle.jobs.proofs.doing.begin.Reads as begin-reads
-use Rattle.jobs.proofs.doing.finish.Reads as finish-reads
-use Rattle.jobs.proofs.doing.refuse.Reads as refuse-reads
 
--- src/doing.rt:168:36
 enum-told : tie.Need-enum-told
 enum-told c = search needs
 
--- src/doing.rt:168:29
 refuse-requires : tie.Need-refuse-requires
 refuse-requires c κs = search needs
 
--- src/doing.rt:169:24
 enum-known-item : tie.Need-enum-known-item
 enum-known-item c = search needs
 
--- src/doing.rt:169:39
 begin-requires : tie.Need-begin-requires
 begin-requires c κs = (c .before .before .before .before .before .before .before .before .before .before .before .before .before .before .pre .0, (omega arith, omega arith))
 
--- src/doing.rt:170:23
 enum-known-item-2 : tie.Need-enum-known-item-2
 enum-known-item-2 c = search needs
 
--- src/doing.rt:170:35
 advance-requires : tie.Need-advance-requires
 advance-requires c κs = (c .before .before .before .before .before .before .before .before .before .before .before .before .before .before .pre .0, (omega arith, omega arith))
 
--- src/doing.rt:171:35
 enum-told-2 : tie.Need-enum-told-2
 enum-told-2 c = search needs
 
--- src/doing.rt:171:25
 finish-requires : tie.Need-finish-requires
 finish-requires c κs = let w = c .before .before .before .before .before .before .before .before .before .before .pre .0 in (ok-fits _ (w .sizes), (lengths-of _ _ (w .lengths) .slots, (omega arith, omega arith)))
 
--- src/doing.rt:172:31
 enum-told-3 : tie.Need-enum-told-3
 enum-told-3 c = search needs
 
--- src/doing.rt:172:24
 refuse-requires-2 : tie.Need-refuse-requires-2
 refuse-requires-2 c κs = search needs
 
--- src/doing.rt:150:1
 same-length : tie.Need-same-length
 same-length c = search needs
 
--- src/doing.rt:150:1
 returns : tie.Need-returns
 returns c = search on-sizes
 
--- src/doing.rt:150:1
 same-length-2 : tie.Need-same-length-2
 same-length-2 c = search needs
 
--- src/doing.rt:150:1
 same-length-3 : tie.Need-same-length-3
 same-length-3 c = search needs
 
--- src/doing.rt:150:1
 same-length-4 : tie.Need-same-length-4
 same-length-4 c = search needs
 
--- src/doing.rt:150:1
 same-length-5 : tie.Need-same-length-5
 same-length-5 c = search needs
 
--- src/doing.rt:150:1
 same-length-6 : tie.Need-same-length-6
 same-length-6 c = search needs
 
--- src/doing.rt:150:1
 returns-2 : tie.Need-returns-2
 returns-2 c = search on-start
 
--- src/doing.rt:150:1
 same-length-7 : tie.Need-same-length-7
 same-length-7 c = search needs
 
--- src/doing.rt:150:1
 same-length-8 : tie.Need-same-length-8
 same-length-8 c = search needs
 
--- src/doing.rt:150:1
 same-length-9 : tie.Need-same-length-9
 same-length-9 c = search needs
 
--- src/doing.rt:150:1
 same-length-10 : tie.Need-same-length-10
 same-length-10 c = search needs
 
--- src/doing.rt:150:1
 same-length-11 : tie.Need-same-length-11
 same-length-11 c = search needs
 
--- src/doing.rt:150:1
 returns-3 : tie.Need-returns-3
 returns-3 c = search on-step
 
--- src/doing.rt:150:1
 same-length-12 : tie.Need-same-length-12
 same-length-12 c = search needs
 
--- src/doing.rt:150:1
 same-length-13 : tie.Need-same-length-13
 same-length-13 c = search needs
 
--- src/doing.rt:150:1
 returns-4 : tie.Need-returns-4
 returns-4 c = search on-end
 
--- src/doing.rt:150:1
 same-length-14 : tie.Need-same-length-14
 same-length-14 c = search needs
 
--- src/doing.rt:150:1
 returns-5 : tie.Need-returns-5
 returns-5 c = search on-bad
 
