@@ -1,5 +1,5 @@
 // Document 01 in plain Rust, on lent numbers: sizes, lengths, opening, start and every refusal.
-// Written from 01, the points it leaves open, docs/LANES.md, the design's table of stages and the source's `places_ok`;
+// Written from 01, the points it leaves open, docs/LANES.md, the table of stages of a design page (not in this repository) and the source's `places_ok`;
 // not from the code or the definitions that it judges.
 // The standing check is in standing.rs, the steps are in steps.rs.
 

@@ -20,7 +20,7 @@ use Rattle.machine.specs.declared.Act.{Act}
 use Rattle.machine.specs.declared.Act.the-variants.{Rest, Try, Release, Look, Store, PickOne, PickFrom, Move}
 use Rattle.machine.specs.declared.Seen.{Seen}
 use Rattle.machine.specs.declared.Moved.{Moved}
-use Rattle.machine.specs.Steps.{Memory, Performed, Stepped, pathLength, actOf}
+use Rattle.machine.specs.Steps.{Memory, Performed, pathLength, actOf}
 
 -- the highest number of 32 bits
 abbrev pub maxNumber : ℕ

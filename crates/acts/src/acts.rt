@@ -26,9 +26,9 @@ use slots::Slot;
 ghost use mathlib.Core.Path.{_≡_};
 ghost use mathlib.Core.Bool.{cond};
 ghost use Prim.Native.Nat.{_-_, _≤_};
-ghost use Rattle.places.specs.Table.{Fits};
+ghost use Rattle.places.specs.Table.{Fits, lockOf};
 ghost use Rattle.slots.specs.Slot.{emptySlot, fullSlot};
-ghost use Rattle.machine.specs.Steps.{swingRows, outcomePlaces, endingPlaces, pathLength, written, actAt, actOf};
+ghost use Rattle.machine.specs.Steps.{modeOf, rowOn, swingRows, outcomePlaces, endingPlaces, pathLength, written, actAt, actOf};
 ghost use Rattle.acts.specs.Fitting.{StageFits};
 
 fn outcome_places(o: Outcome) -> u32
@@ -131,12 +131,58 @@ fn low_tail(z: Sizes, last: Place, w: Walk) -> Tail
     }
 }
 
+// The write of a hit.
+fn write_hit(z: Sizes, lane: Lane, side: Side, column: u32) -> Act
+    requires { ⌜ Fits z ⌝ }
+    ensures { λ r. ⌜ r ≡ Act.Store (rowOn z (lane .key) side) column (written (lane .op) (lane .key) (lane .value)) ⌝ }
+{
+    let op = lane.op;
+    let row = row_on(z, lane.key, side);
+    Act::Store(row, column, written(op, lane.key, lane.value))
+}
+
+// The filling of an empty slot.
+fn write_room(z: Sizes, lane: Lane, side: Side, column: u32) -> Act
+    requires { ⌜ Fits z ⌝ }
+    ensures { λ r. ⌜ r ≡ Act.Store (rowOn z (lane .key) side) column (fullSlot (lane .key) (lane .value)) ⌝ }
+{
+    let row = row_on(z, lane.key, side);
+    Act::Store(row, column, full_slot(lane.key, lane.value))
+}
+
+// The release of a row of the key.
+fn drop_row(z: Sizes, lane: Lane, side: Side) -> Act
+    requires { ⌜ Fits z ⌝ }
+    ensures { λ r. ⌜ r ≡ Act.Release (lockOf z (rowOn z (lane .key) side)) (modeOf (lane .op)) Tail.Keep ⌝ }
+{
+    let op = lane.op;
+    Act::Release(row_lock(z, lane.key, side), mode_of(op), Tail::Keep)
+}
+
+// The release of a swing's lower lock.
+fn drop_low(z: Sizes, last: Place, w: Walk) -> Act
+    requires { ⌜ Fits z ⌝ }
+    requires { ⌜ 1 ≤ w .places ⌝ }
+    ensures { λ r. ⌜ r ≡ Act.Release (lockOf z (swingRows z last w .first)) Mode.Writing (cond (swingRows z last w .shared) (Tail.TakeOff (w .places - 1)) Tail.Keep) ⌝ }
+{
+    Act::Release(low_lock(z, last, w), Mode::Writing, low_tail(z, last, w))
+}
+
+// The release of a swing's higher lock.
+fn drop_high(z: Sizes, last: Place, w: Walk) -> Act
+    requires { ⌜ Fits z ⌝ }
+    requires { ⌜ 1 ≤ w .places ⌝ }
+    ensures { λ r. ⌜ r ≡ Act.Release (lockOf z (swingRows z last w .second)) Mode.Writing (Tail.TakeOff (w .places - 1)) ⌝ }
+{
+    let lock = high_lock(z, last, w);
+    Act::Release(lock, Mode::Writing, Tail::TakeOff(w.places - 1))
+}
+
 fn act_at(z: Sizes, lane: Lane, last: Place, stage: Stage) -> Act
     requires { ⌜ Fits z ⌝ }
     requires { ⌜ StageFits z stage ⌝ }
     ensures { λ r. ⌜ r ≡ actAt z lane last stage ⌝ }
 {
-    let op = lane.op;
     match stage {
         Stage::Idle => Act::Rest,
         Stage::TakeMain(g) => Act::Try(z.locks, g),
@@ -146,27 +192,11 @@ fn act_at(z: Sizes, lane: Lane, last: Place, stage: Stage) -> Act
         Stage::SeekSecond(column) => Act::Look(row_on(z, lane.key, Side::Second), column),
         Stage::RoomFirst(column) => Act::Look(row_on(z, lane.key, Side::First), column),
         Stage::RoomSecond(column) => Act::Look(row_on(z, lane.key, Side::Second), column),
-        Stage::WriteHit(side, column) => {
-            Act::Store(
-                row_on(z, lane.key, side),
-                column,
-                written(op, lane.key, lane.value),
-            )
-        }
-        Stage::WriteRoom(side, column) => {
-            Act::Store(
-                row_on(z, lane.key, side),
-                column,
-                full_slot(lane.key, lane.value),
-            )
-        }
+        Stage::WriteHit(side, column) => write_hit(z, lane, side, column),
+        Stage::WriteRoom(side, column) => write_room(z, lane, side, column),
         Stage::Pick => Act::PickOne(home_one(z, lane.key), home_two(z, lane.key)),
-        Stage::DropFirst(o) => {
-            Act::Release(row_lock(z, lane.key, Side::First), mode_of(op), Tail::Keep)
-        }
-        Stage::DropSecond(o) => {
-            Act::Release(row_lock(z, lane.key, Side::Second), mode_of(op), Tail::Keep)
-        }
+        Stage::DropFirst(o) => drop_row(z, lane, Side::First),
+        Stage::DropSecond(o) => drop_row(z, lane, Side::Second),
         Stage::DropMain(e) => Act::Release(z.locks, Mode::Writing, Tail::Clear),
         Stage::TakeNext(g, t) => Act::Try(other_lock(z, last), g),
         Stage::LookNext(column, t) => Act::Look(other_row(z, last), column),
@@ -175,16 +205,8 @@ fn act_at(z: Sizes, lane: Lane, last: Place, stage: Stage) -> Act
         Stage::TakeLow(g, w) => Act::Try(low_lock(z, last, w), g),
         Stage::TakeHigh(g, w) => Act::Try(high_lock(z, last, w), g),
         Stage::Swing(w) => Act::Move(last, w.row, w.column),
-        Stage::DropLow(w) => {
-            Act::Release(low_lock(z, last, w), Mode::Writing, low_tail(z, last, w))
-        }
-        Stage::DropHigh(w) => {
-            Act::Release(
-                high_lock(z, last, w),
-                Mode::Writing,
-                Tail::TakeOff(w.places - 1),
-            )
-        }
+        Stage::DropLow(w) => drop_low(z, last, w),
+        Stage::DropHigh(w) => drop_high(z, last, w),
     }
 }
 

@@ -18,6 +18,7 @@ use Rattle.machine.specs.Desk.{lengthsOk, opened, openingNumber, afterOpening, 
 use Rattle.machine.specs.Standing.{lockStands, placeStands, linked, unused, pathStands, rowStands, slotStands, laneStands, standing}
 use Rattle.cases.specs.Cases.{cases, passes, runAlone}
 
+-- to find a case that fails, state `passes (..) ≡ true` for one case at a time in a copy of this file
 pub all-cases : allOf (map passes cases) ≡ true
 unfolding sumBelow allBelow anyBelow firstFrom cell put lockOrder inLimits sizesOk slotIndex slotCount rowAt homeOne homeTwo lockOf slotAt withSlot holds badShape strays standsBelow faultOf isFaulty sound openingFault lockAt withLock tryLock released placeAt withPlace emptied lastOf otherRow gripAt claimsAt numbersOf laneAt withLane decodes actAt perform advanceAt stepLane lengthsOk opened openingNumber afterOpening startAnswer started afterStart turned stepAnswer afterStep lockStands placeStands linked unused pathStands rowStands slotStands laneStands standing cases passes runAlone
 all-cases = refl

@@ -18,6 +18,7 @@ use Rattle.machine.specs.Desk.{afterOpening, startAnswer, startNumber, afterSta
 
 -- ---- a lane run alone
 
+-- "Alone": one lane
 abbrev pub sizes : ℕ → ℕ → ℕ → Sizes
 sizes rows columns locks = record { rows = rows; columns = columns; locks = locks; lanes = 1 }
 
@@ -26,6 +27,7 @@ abbrev pub tableOf : Sizes → List ℕ → Table
 tableOf z xs =
     afterOpening z (record { slots = xs; locks = replicate ((z .locks + 1) * 2) 0; lanes = replicate laneNumbers 0; path = replicate (pathPlaces z * 3) 0 })
 
+-- "empty table"
 abbrev pub emptyTable : Sizes → Table
 emptyTable z = tableOf z (replicate (slotCount z * 3) 0)
 
@@ -39,17 +41,20 @@ pub record Run : Type 0 where
 abbrev pub picks : Stage → Bool
 picks s = eqb (stageWords s .code) 10 || eqb (stageWords s .code) 16
 
+-- the byte of the next step
 abbrev pub byteFor : Stage → List ℕ → ℕ
 byteFor s bytes = cond (picks s) (getD bytes 0 0) 0
 
+-- and the bytes left after it
 abbrev pub bytesAfter : Stage → List ℕ → List ℕ
 bytesAfter s [] = []
 bytesAfter s (b ∷ bytes) = cond (picks s) bytes (b ∷ bytes)
 
--- lane 0 by itself for n steps, or until a step ends it or is refused
+-- a step has ended its operation, or was refused
 abbrev pub ended : StepNumbers → Bool
 ended a = cond (eqb (a .number) 0) (cond (eqb (a .end) 0) false true) true
 
+-- lane 0 by itself for n steps, or until a step ends it or is refused
 unfoldable pub runAlone : ℕ → Sizes → List ℕ → Run → Run
 runAlone zero z bytes r = r
 runAlone (suc n) z bytes r =
@@ -59,11 +64,13 @@ runAlone (suc n) z bytes r =
     cond (ended a) (record { table = t; steps = r .steps + 1; last = a })
     (runAlone n z (bytesAfter s bytes) (record { table = t; steps = r .steps + 1; last = a }))
 
+-- a request started
 abbrev pub begin : Sizes → Table → Request → Run
 begin z t r = record { table = afterStart z t 0 r; steps = 0; last = record { number = startNumber (startAnswer z t 0 r); end = 0; value = 0 } }
 
 -- ---- the cases
 
+-- "Tapes to try": a case of the table
 pub data Case : Type 0 where
   -- home rows of a key
   rowsAre : ℕ → ℕ → ℕ → ℕ → Case
@@ -74,9 +81,11 @@ pub data Case : Type 0 where
   -- sizes, slots, request, pick bytes, steps: the places then on the path
   picked : Sizes → List ℕ → Request → List ℕ → ℕ → List ℕ → Case
 
+-- two lists are the same
 abbrev pub same : List ℕ → List ℕ → Bool
 same xs ys = eqb (length xs) (length ys) && allBelow (length xs) (λ i. eqb (getD xs i 0) (getD ys i 0))
 
+-- all numbers are 0
 abbrev pub zeros : List ℕ → Bool
 zeros xs = allBelow (length xs) (λ i. eqb (getD xs i 0) 0)
 
@@ -84,6 +93,7 @@ zeros xs = allBelow (length xs) (λ i. eqb (getD xs i 0) 0)
 abbrev pub plenty : ℕ
 plenty = 200
 
+-- the definitions give what a case says
 unfoldable pub passes : Case → Bool
 passes (rowsAre rows key one two) = eqb (homeOne (sizes rows 1 1) key) one && eqb (homeTwo (sizes rows 1 1) key) two
 passes (takes z r steps end) =
@@ -117,6 +127,8 @@ walkSlots = 1 ∷ 24 ∷ 24 ∷ 1 ∷ 12 ∷ 12 ∷ 1 ∷ 9 ∷ 9 ∷ 1 ∷ 1 �
 abbrev pub walkedSlots : List ℕ
 walkedSlots = 1 ∷ 9 ∷ 9 ∷ 1 ∷ 12 ∷ 12 ∷ 0 ∷ 0 ∷ 0 ∷ 1 ∷ 24 ∷ 24 ∷ 1 ∷ 1 ∷ 1 ∷ 0 ∷ 0 ∷ 0 ∷ 1 ∷ 11 ∷ 11 ∷ 1 ∷ 23 ∷ 23 ∷ []
 
+-- "The starred cases form a single table". The walk's 86 steps: 17 to the search (main 2, rows 2 x (2 + 2), room 4, pick 1, releases 2), 3 x 7 + 5
+-- in the search, 4 x 7 in the walk, 12 + 3 in the second pass; the last pick is step 37, the first step 15
 unfoldable pub cases : List Case
 cases =
     rowsAre 3 1024 1 0 ∷ rowsAre 2 5 1 0 ∷ rowsAre 4 8 0 3 ∷ rowsAre 4 9 1 0 ∷ rowsAre 4 11 3 2

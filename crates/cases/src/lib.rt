@@ -1,1 +1,2 @@
-// 01's starred cases as one table, and the theorem that the definitions give every one. No code. Uses all crates below the desk and the desk.
+// 01's starred cases as one table, and the theorem that the definitions give every one. No code.
+// Uses `machine` and what stands below it.

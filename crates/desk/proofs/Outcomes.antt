@@ -14,7 +14,8 @@ use Rattle.machine.specs.Standing.{Table, standing}
 use Rattle.machine.specs.Desk.{lengthsOk}
 use Rattle.kept.specs.Runs.{Stood}
 use Rattle.kept.proofs.Long.{lengths-of, lanes-of}
-use Rattle.standing.specs.Tables.{table, Lengths}
+use Rattle.standing.specs.Tables.{table}
+use Rattle.standing.specs.Partial.{Lengths}
 use Rattle.desk.specs.Calls.{Calls, Keeps}
 
 -- ---- what the tests give

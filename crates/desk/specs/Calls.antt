@@ -41,5 +41,6 @@ StepsTo z t j byte r u = Calls r (stepAnswer z t j byte) u (afterStep z t j byte
 abbrev pub StartKeeps : Sizes → Table → ℕ → Request → Started → Table → Type 0
 StartKeeps z t j q r u = Keeps z r (startAnswer z t j q) u (afterStart z t j q)
 
+-- and a step
 abbrev pub StepKeeps : Sizes → Table → ℕ → ℕ → Stepped → Table → Type 0
 StepKeeps z t j byte r u = Keeps z r (stepAnswer z t j byte) u (afterStep z t j byte)

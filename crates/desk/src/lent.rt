@@ -8,7 +8,13 @@ ghost use Rattle.machine.specs.Desk.{lengthsOk};
 ghost use Rattle.standing.specs.Tables.{table};
 
 // Every lent length is what the sizes need: where not, refusal 2.
-pub fn lengths_ok(z: Sizes, slots: &[u32], locks: &[u32], lanes: &[u32], path: &[u32]) -> bool
+pub(super) fn lengths_ok(
+    z: Sizes,
+    slots: &[u32],
+    locks: &[u32],
+    lanes: &[u32],
+    path: &[u32],
+) -> bool
     requires { ⌜ Fits z ⌝ }
     ensures { λ r. ⌜ r ≡ lengthsOk z (table (now (slots .entry)) (now (locks .entry)) (now (lanes .entry)) (now (path .entry))) ⌝ }
 {

@@ -10,25 +10,16 @@ use machine::Started;
 use places::MAX_KEY;
 use places::Sizes;
 use places::sizes_ok;
+use records::is_idle;
 use records::lane_at;
-use records::op_code;
 use records::set_lane;
 use standing::stands;
 ghost use mathlib.Core.Path.{_≡_};
-ghost use Rattle.machine.specs.Claims.{isIdleOp};
 ghost use Rattle.machine.specs.Desk.{keyOf};
 ghost use Rattle.machine.specs.Desk.{begun as Desk·begun};
 ghost use Rattle.kept.specs.Runs.{Stood};
 ghost use Rattle.standing.specs.Tables.{table};
 ghost use Rattle.desk.specs.Calls.{StartsTo, StartKeeps};
-
-// The lane does nothing.
-pub fn is_idle(lane: Lane) -> bool
-    ensures { λ r. ⌜ r ≡ isIdleOp (lane .op) ⌝ }
-{
-    let op = lane.op;
-    op_code(op) == 0
-}
 
 fn key_of(request: Request) -> u32
     ensures { λ r. ⌜ r ≡ keyOf request ⌝ }

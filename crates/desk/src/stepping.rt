@@ -1,10 +1,10 @@
 // Step: a busy lane does its next step.
 use super::lent::lengths_ok;
-use super::starting::is_idle;
 use lanes::step_lane;
 use machine::Stepped;
 use places::Sizes;
 use places::sizes_ok;
+use records::is_idle;
 use records::lane_at;
 use records::set_lane;
 use standing::stands;

@@ -36,8 +36,8 @@ still z t i zero e = refl
 still z t i (suc n) e = ap (λ (u : Table). afterAll z u (alone n i)) e ∙ still z t i n e
 
 pub no-deadlock : (z : Sizes) (t : Table) → Stood z t → (b : ℕ) → b < z .lanes → isBusy t b ≡ true
-    → (j : ℕ) × (byte : ℕ) × (stepNumbers (stepAnswer z t j byte) .number ≡ 0) × (afterStep z t j byte ≢ t)
-no-deadlock z t st b hb busy = (chosen z t, 0, taken z t st (chosen z t) (chosen-lane z t st) (chosen-busy z t st urgent), changes)
+    → (j : ℕ) × (byte : ℕ) × (byte < 256) × (stepNumbers (stepAnswer z t j byte) .number ≡ 0) × (afterStep z t j byte ≢ t)
+no-deadlock z t st b hb busy = (chosen z t, 0, omega arith, taken z t st (chosen z t) (chosen-lane z t st) (chosen-busy z t st urgent), changes)
   where
     urgent : urgency z t (chosen z t) ≢ 0
     urgent u = false≢true (sym (ap not (all-idle z t st u b hb)) ∙ busy)

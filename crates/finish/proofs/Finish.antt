@@ -19,7 +19,7 @@ use Rattle.machine.specs.Standing.{Table, lastAt}
 use Rattle.machine.specs.Desk.{afterStep}
 use Rattle.kept.specs.Runs.{Reached, Stood}
 use Rattle.kept.proofs.Kept.{kept}
-use Rattle.finish.specs.Finish.{Call, afterAll, Accepted, timesOf, isBusy, unfinished, stepBound, Finishes}
+use Rattle.finish.specs.Finish.{Call, afterAll, Accepted, Bytes, timesOf, isBusy, unfinished, stepBound, Finishes}
 use Rattle.finish.specs.Weight.{weight}
 use Rattle.finish.specs.Schedule.{urgency, chosen, alone, turnOf, turns, scheduleFor}
 use Rattle.finish.proofs.Heaviest.{weighs-within}
@@ -36,6 +36,14 @@ module _ (z : Sizes) where
   accepted-append : (t : Table) (xs ys : List Call) → Accepted z t xs → Accepted z (afterAll z t xs) ys → Accepted z t (xs ++ ys)
   accepted-append t [] ys a b = b
   accepted-append t (x ∷ xs) ys a b = (a .0, accepted-append (afterStep z t (x .lane) (x .byte)) xs ys (a .1) b)
+
+bytes-append : (xs ys : List Call) → Bytes xs → Bytes ys → Bytes (xs ++ ys)
+bytes-append [] ys a b = b
+bytes-append (x ∷ xs) ys a b = (a .0, bytes-append xs ys (a .1) b)
+
+bytes-alone : (n i : ℕ) → Bytes (alone n i)
+bytes-alone zero i = tt
+bytes-alone (suc n) i = (omega arith, bytes-alone n i)
 
 times-append : (j : ℕ) (xs ys : List Call) → timesOf j (xs ++ ys) ≡ timesOf j xs + timesOf j ys
 times-append j [] ys = omega arith
@@ -56,13 +64,14 @@ total z t = sumBelow (z .lanes) (λ j. weight z (laneAt (t .lanes) j))
 
 record Ends (z : Sizes) (t : Table) (cs : List Call) : Type 0 where
   accepted : Accepted z t cs
+  bytes : Bytes cs
   idle : (j : ℕ) → j < z .lanes → isIdleOp (laneAt (afterAll z t cs .lanes) j .op) ≡ true
   short : length cs ≤ total z t
   each : (j : ℕ) → j < z .lanes → timesOf j cs ≤ weight z (laneAt (t .lanes) j)
 
 -- nobody is left
 at-end : (z : Sizes) (t : Table) → Stood z t → urgency z t (chosen z t) ≡ 0 → Ends z t []
-at-end z t st u = record { accepted = tt; idle = all-idle z t st u; short = omega arith; each = λ j h. omega arith }
+at-end z t st u = record { accepted = tt; bytes = tt; idle = all-idle z t st u; short = omega arith; each = λ j h. omega arith }
 
 -- a turn that pays takes its steps off the total
 module _ (z : Sizes) (t : Table) (i n : ℕ) (hi : i < z .lanes) (p : Paid z t i n) where
@@ -81,6 +90,7 @@ module _ (z : Sizes) (t : Table) (i n : ℕ) (hi : i < z .lanes) (p : Paid z t i
   join cs e =
       record {
         accepted = accepted-append z t (alone n i) cs (p .ran .accepted) (e .accepted);
+        bytes = bytes-append (alone n i) cs (bytes-alone n i) (e .bytes);
         idle = λ j h. ap (λ (u : Table). isIdleOp (laneAt (u .lanes) j .op)) (after-append z t (alone n i) cs) ∙ e .idle j h;
         short = omega (arith, lighter, e .short, length-append (alone n i) cs, length-replicate {A = Call} n (record { lane = i; byte = 0 }));
         each = λ j h. elim (ℕ-discrete j i) [
@@ -117,6 +127,7 @@ pub finish : (z : Sizes) (t : Table) → Stood z t → Finishes z t
 finish z t st =
     record {
       schedule = scheduleFor z t;
+      bytes = ends z t st .bytes;
       accepted = ends z t st .accepted;
       allIdle = ends z t st .idle;
       total = omega (arith, ends z t st .short, total-within z t st);

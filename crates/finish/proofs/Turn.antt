@@ -8,7 +8,7 @@ use native.Mathlib.Omega.{arith}
 use Rattle.places.specs.declared.Sizes.{Sizes}
 use Rattle.locks.specs.declared.Lock.{Lock}
 use Rattle.locks.specs.declared.Grab.{Grab}
-use Rattle.locks.specs.declared.Attempt.{Attempt}
+use Rattle.locks.specs.declared.AfterTry.{AfterTry}
 use Rattle.locks.specs.Locks.{lockAt, tryLock}
 use Rattle.machine.specs.declared.Act.the-variants.{Try}
 use Rattle.machine.specs.Lane.{laneAt}
@@ -38,8 +38,8 @@ pub run-tries : {g : Grab} {w : Lock} {n x : ℕ} → Tries g w n x → (z : Siz
 run-tries (last {g} {r} e) z t st i hi busy k a q =
     one-step z t st i hi busy (grabWeight g) (triedWeight r) (omega (arith, tried-falls z t st i hi busy k g a, ap triedWeight (ap (λ (v : Lock). tryLock g v .tried) q ∙ e)))
 run-tries (then {g} {g′} e s) z t st i hi busy k a q =
-    let answer : _ = ap (λ (v : Lock). tryLock g v .tried) q ∙ ap (λ (x : Attempt). x .tried) e in
-    let word : _ = tried-lock z t st i hi busy k g a ∙ ap (λ (v : Lock). tryLock g v .lock) q ∙ ap (λ (x : Attempt). x .lock) e in
+    let answer : _ = ap (λ (v : Lock). tryLock g v .tried) q ∙ ap (λ (x : AfterTry). x .tried) e in
+    let word : _ = tried-lock z t st i hi busy k g a ∙ ap (λ (v : Lock). tryLock g v .lock) q ∙ ap (λ (x : AfterTry). x .lock) e in
     let act : _ = waits-act z t st i hi busy k g a g′ answer in
     let more : _ = run-tries s z (afterStep z t i 0) (taken-stood z t st i hi busy) i hi (waits-busy z t st i hi busy k g a g′ answer) k act word in
     record {

@@ -28,6 +28,11 @@ abbrev pub Accepted : Sizes → Table → List Call → Type 0
 Accepted z t [] = Unit {0}
 Accepted z t (c ∷ cs) = (stepNumbers (stepAnswer z t (c .lane) (c .byte)) .number ≡ 0) × Accepted z (afterStep z t (c .lane) (c .byte)) cs
 
+-- "hands over one byte"
+abbrev pub Bytes : List Call → Type 0
+Bytes [] = Unit {0}
+Bytes (c ∷ cs) = (c .byte < 256) × Bytes cs
+
 -- how often a lane stands in a schedule
 abbrev pub timesOf : ℕ → List Call → ℕ
 timesOf j [] = 0
@@ -37,6 +42,7 @@ timesOf j (c ∷ cs) = bit (eqb (c .lane) j) + timesOf j cs
 abbrev pub isBusy : Table → ℕ → Bool
 isBusy t j = not (isIdleOp (laneAt (t .lanes) j .op))
 
+-- "for each unfinished lane": how many there are
 abbrev pub unfinished : Sizes → Table → ℕ
 unfinished z t = countBelow (z .lanes) (isBusy t)
 
@@ -44,10 +50,14 @@ unfinished z t = countBelow (z .lanes) (isBusy t)
 abbrev pub stepBound : Sizes → ℕ
 stepBound z = 20 * (z .rows + 2) * (z .columns + 2)
 
--- a schedule that ends every operation: within the bound for each unfinished lane, and no lane takes more than its own share
+-- "some schedule without new starts ends every operation"
 pub record Finishes (z : Sizes) (t : Table) : Type 0 where
   pub schedule : List Call
+  pub bytes : Bytes schedule
   pub accepted : Accepted z t schedule
+  -- "ends every operation": an ended lane is idle
   pub allIdle : (j : ℕ) → j < z .lanes → isIdleOp (laneAt (afterAll z t schedule .lanes) j .op) ≡ true
+  -- "within 20 x (rows + 2) x (columns + 2) steps for each unfinished lane"
   pub total : length schedule ≤ stepBound z * unfinished z t
+  -- and no lane takes more than its own share
   pub each : (j : ℕ) → j < z .lanes → timesOf j schedule ≤ stepBound z * bit (isBusy t j)

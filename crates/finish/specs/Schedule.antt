@@ -59,6 +59,7 @@ onAct (Move from row column) rest taking other = other
 abbrev pub actUrgency : Sizes → List ℕ → Act → ℕ
 actUrgency z ls a = onAct a 0 (λ k g. grabUrgency z (lockAt ls k) k g) (topUrgency z)
 
+-- how many steps an act is given
 abbrev pub actTurns : List ℕ → Act → ℕ
 actTurns ls a = onAct a 1 (λ k g. grabTurns (lockAt ls k) g) 1
 
@@ -66,6 +67,7 @@ actTurns ls a = onAct a 1 (λ k g. grabTurns (lockAt ls k) g) 1
 abbrev pub nextAct : Sizes → Table → ℕ → Act
 nextAct z t j = actOf z (laneAt (t .lanes) j) (lastAt t j)
 
+-- how urgent a lane's next step is
 abbrev pub urgency : Sizes → Table → ℕ → ℕ
 urgency z t j = actUrgency z (t .locks) (nextAct z t j)
 
@@ -88,5 +90,6 @@ turns (suc n) z t =
     cond (eqb (urgency z t (chosen z t)) 0) []
     (turnOf z t (chosen z t) ++ turns n z (afterAll z t (turnOf z t (chosen z t))))
 
+-- turns enough for every lane
 abbrev pub scheduleFor : Sizes → Table → List Call
 scheduleFor z t = turns (stepBound z * z .lanes) z t

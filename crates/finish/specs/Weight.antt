@@ -50,10 +50,12 @@ laterWeight z Delete = 0
 laterWeight z Insert = searchWeight z 0
 laterWeight z Again = 0
 
+-- an attempt that found room, or a full row, before its release
 abbrev pub foundWeight : Sizes → Found → Trail → ℕ
 foundWeight z (Room column) t = walkWeight z (t .places) + 1
 foundWeight z Full t = searchWeight z (t .picks) + 1
 
+-- what each stage weighs
 abbrev pub stageWeight : Sizes → Op → Stage → ℕ
 stageWeight z op Idle = 0
 stageWeight z op (DropMain e) = 1
@@ -79,5 +81,6 @@ stageWeight z op (PickNext t) = searchWeight z (t .picks + 1) + 2
 stageWeight z op (LookNext column t) = searchWeight z (t .picks + 1) + 2 + (z .columns - column)
 stageWeight z op (TakeNext g t) = searchWeight z (t .picks + 1) + 2 + z .columns + grabWeight g
 
+-- what a lane weighs
 abbrev pub weight : Sizes → Lane → ℕ
 weight z l = stageWeight z (l .op) (l .stage)

@@ -1,1 +1,2 @@
-// From every standing table a schedule ends every operation: theorems about the definitions of the crates below. No code.
+// From every standing table a schedule ends every operation: theorems about the definitions. No code.
+// Uses `kept`, `machine` and what stands below them.

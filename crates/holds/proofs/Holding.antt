@@ -1,6 +1,6 @@
 -- What a lane holds and claims in the code: by what its stage, its outcome is, and with the rows and locks of a call by name.
 -- Assumes nothing.
-use mathlib.Core.Path.{_≡_, _∙_, ap, sym, refl}
+use mathlib.Core.Path.{_≡_, _∙_, ap, sym}
 use mathlib.Core.Bool.{Bool, true, false, cond}
 use Prim.Native.Nat.{ℕ}
 use Rattle.places.specs.declared.Sizes.{Sizes}
@@ -18,7 +18,6 @@ use Rattle.machine.specs.declared.Side.{Side}
 use Rattle.machine.specs.declared.Side.the-variants.{First, Second}
 use Rattle.machine.specs.declared.Walk.{Walk}
 use Rattle.machine.specs.declared.Outcome.{Outcome}
-use Rattle.machine.specs.declared.Outcome.the-variants.{Hit, Wrote}
 use Rattle.machine.specs.declared.Found.{Found}
 use Rattle.machine.specs.declared.Found.the-variants.{Room}
 use Rattle.machine.specs.declared.Stage.{Stage}
@@ -29,14 +28,6 @@ use Rattle.machine.specs.declared.SlotClaim.the-variants.{HasRoom}
 use Rattle.machine.specs.declared.Claims.{Claims}
 use Rattle.machine.specs.Steps.{modeOf, rowOn, sharedRows, swingRows, dropsTwo}
 use Rattle.machine.specs.Claims.{grip, mainPart, passGrip, walkGrip, hitRows, gripAt, rowClaim, passClaims, searchClaims, dropClaims, lateClaims, roomClaims, foundClaims, claimsAt}
-
--- a hit releases what a write does
-as-wrote : (shared : Bool) (side : Side) (column value : ℕ) → dropsTwo shared (Wrote side) ≡ dropsTwo shared (Hit side column value)
-as-wrote shared First column value = refl
-as-wrote shared Second column value = refl
-
-pub hit-drops : (shared b : Bool) (o : Outcome) (side : Side) (column value : ℕ) → o ≡ Hit side column value → b ≡ dropsTwo shared (Wrote side) → b ≡ dropsTwo shared o
-hit-drops shared b o side column value e h = h ∙ as-wrote shared side column value ∙ ap (dropsTwo shared) (sym e)
 
 pub main-by : (op q : Op) (p : Part) → op ≡ q → p ≡ mainPart q → p ≡ mainPart op
 main-by op q p e h = h ∙ ap mainPart (sym e)
@@ -52,12 +43,12 @@ module _ (z : Sizes) (rows : RowPair) (one two : Part) (a b : ℕ) (g : Grip) wh
       eg ∙ (λ i. grip (Holds Writing) ((ea ∙ ap (λ (r : RowPair). lockOf z (r .first)) er) i) one ((eb ∙ ap (λ (r : RowPair). lockOf z (r .second)) er) i) two)
 
 -- the two ways the test in `drop_grip` goes
-module _ (z : Sizes) (l : Lane) (o : Outcome) (rows : RowPair) (b : Bool) (g : Grip) (er : rows ≡ rowsOf z (l .key)) (eb : b ≡ dropsTwo (rows .shared) o) where
+module _ (z : Sizes) (l : Lane) (o : Outcome) (s b : Bool) (g : Grip) (es : s ≡ sharedRows z (l .key)) (eb : b ≡ dropsTwo s o) where
   abbrev dropped : Bool → Grip
   dropped t = passGrip z l (Holds (modeOf (l .op))) (cond t (Holds (modeOf (l .op))) NoPart)
 
   test : b ≡ dropsTwo (sharedRows z (l .key)) o
-  test = eb ∙ ap (λ (r : RowPair). dropsTwo (r .shared) o) er
+  test = eb ∙ ap (λ (x : Bool). dropsTwo x o) es
 
   pub drops-second : (m : Mode) → b ≡ true → m ≡ modeOf (l .op) → g ≡ passGrip z l (Holds (modeOf (l .op))) (Holds m) → g ≡ passGrip z l (Holds (modeOf (l .op))) (cond (dropsTwo (sharedRows z (l .key)) o) (Holds (modeOf (l .op))) NoPart)
   drops-second m t em h = h ∙ ap (λ (k : Mode). passGrip z l (Holds (modeOf (l .op))) (Holds k)) em ∙ ap dropped (sym t ∙ test)

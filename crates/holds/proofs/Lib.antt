@@ -1,2 +1,2 @@
 mod Holding
-pub mod Tested
+pub mod Low

@@ -18,11 +18,12 @@ use paths::Place;
 use paths::other_row;
 use places::Sizes;
 use places::lock_of;
-use places::lock_order;
 use places::rows_of;
 use rows::drops_two;
 use rows::mode_of;
+use rows::shared_rows;
 use rows::sought_row;
+use rows::swing_rows;
 ghost use mathlib.Core.Path.{_≡_};
 ghost use mathlib.Core.Bool.{cond};
 ghost use Prim.Native.Nat.{_+_, _≤_};
@@ -120,8 +121,11 @@ fn both_rows(z: Sizes, l: Lane) -> Grip
     ensures { λ r. ⌜ r ≡ bothRows z l ⌝ }
 {
     let op = l.op;
-    let rows = rows_of(z, l.key);
-    first_grip(z, l, second_part(rows.shared, Part::Holds(mode_of(op))))
+    first_grip(
+        z,
+        l,
+        second_part(shared_rows(z, l.key), Part::Holds(mode_of(op))),
+    )
 }
 
 // A hit in the first row is written before the second is taken.
@@ -141,8 +145,7 @@ fn drop_grip(z: Sizes, l: Lane, outcome: Outcome) -> Grip
     ensures { λ r. ⌜ r ≡ passGrip z l (Holds (modeOf (l .op))) (cond (dropsTwo (sharedRows z (l .key)) outcome) (Holds (modeOf (l .op))) NoPart) ⌝ }
 {
     let op = l.op;
-    let rows = rows_of(z, l.key);
-    if drops_two(rows.shared, outcome) {
+    if drops_two(shared_rows(z, l.key), outcome) {
         first_grip(z, l, Part::Holds(mode_of(op)))
     } else {
         first_grip(z, l, Part::NoPart)
@@ -177,7 +180,7 @@ fn walk_grip(z: Sizes, last: Place, w: Walk, one: Part, two: Part) -> Grip
     requires { ⌜ Fits z ⌝ }
     ensures { λ r. ⌜ r ≡ walkGrip z last w one two ⌝ }
 {
-    let rows = lock_order(z, last.row, w.row);
+    let rows = swing_rows(z, last, w);
     grip(
         Part::Holds(Mode::Writing),
         lock_of(z, rows.first),
@@ -192,7 +195,7 @@ fn swing_grip(z: Sizes, last: Place, w: Walk) -> Grip
     ensures { λ r. ⌜ r ≡ walkGrip z last w (Holds Writing) (secondPart (swingRows z last w .shared) (Holds Writing)) ⌝ }
 {
     let held = Part::Holds(Mode::Writing);
-    let rows = lock_order(z, last.row, w.row);
+    let rows = swing_rows(z, last, w);
     walk_grip(z, last, w, held, second_part(rows.shared, held))
 }
 

@@ -1,11 +1,9 @@
-// What the standing check asks of a lane by itself: the range of its numbers, its part in the locks, what it claims of the slots.
-// Uses `records`, `rows` and what stands below them.
+// What a lane by itself owes the standing check: its part in the locks, and what it claims of the slots.
+// Uses `rows` and what stands below it.
 mod held;
-mod inside;
 mod known;
 
 pub use held::Shares;
 pub use held::grip_of;
 pub use held::shares_of;
-pub use inside::lane_in;
 pub use known::claims_of;

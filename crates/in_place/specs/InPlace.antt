@@ -5,10 +5,10 @@ use mathlib.Core.Path.{_≡_}
 use mathlib.Core.List.{List}
 use Rattle.machine.specs.declared.Lane.{Lane}
 use Rattle.machine.specs.declared.Answer.{Answer}
-use Rattle.machine.specs.Steps.{Stepped}
+use Rattle.machine.specs.Steps.{LaneStep}
 
 -- "a lane's record is also lent and changed where it lies"
-pub record Left (r : Answer) (l : Lane) (xs ls ps : List ℕ) (o : Stepped) : Type 0 where
+pub record Left (r : Answer) (l : Lane) (xs ls ps : List ℕ) (o : LaneStep) : Type 0 where
   pub answer : r ≡ o .answer
   pub lane : l ≡ o .lane
   pub slots : xs ≡ o .memory .slots

@@ -11,7 +11,7 @@ use Rattle.machine.specs.declared.Op.the-variants.{Insert}
 use Rattle.machine.specs.declared.Stage.the-variants.{TakeMain}
 use Rattle.machine.specs.declared.Answer.the-variants.{GoesOn}
 use Rattle.machine.specs.declared.Lane.{Lane}
-use Rattle.machine.specs.Steps.{Stepped, stepLane}
+use Rattle.machine.specs.Steps.{LaneStep, stepLane}
 use Rattle.acts.specs.Fitting.{memory}
 
 -- "sizes 3 1 3 1"
@@ -23,7 +23,7 @@ abbrev pub firstLane : Lane
 firstLane = record { op = Insert; key = 1024; value = 7; stage = TakeMain (grabOf Writing) }
 
 -- "thirteen times `05 00 00`": where the insert stands after n of its steps, each with byte 0
-unfoldable pub afterSteps : ℕ → Stepped
+unfoldable pub afterSteps : ℕ → LaneStep
 afterSteps zero = record { memory = memory (replicate 9 0) (replicate 8 0) (replicate 15 0); lane = firstLane; answer = GoesOn }
 afterSteps (suc n) = stepLane smallSizes (afterSteps n .memory) (afterSteps n .lane) 0
 

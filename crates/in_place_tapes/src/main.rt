@@ -1,5 +1,5 @@
 // Steps the lane of 01's whole case where it lies: an insert alone in an empty table. Prints what each step answers, then the
-// slots. The stored output is beside src/. Uses `in_place` and what stands below it.
+// slots. The stored output is beside src/. Uses `in_place` and what stands below it, and the kit's `io` and `libc`.
 use in_place::step_local;
 use libc::STDOUT_FILENO;
 use locks::Mode;

@@ -28,7 +28,7 @@ use Rattle.prints.specs.Put.{Put}
 use Rattle.prints.proofs.Puts.{put-length}
 use Rattle.lines.specs.Lines.{sizesLine, refusedLine, endLines}
 use Rattle.lines.proofs.Lengths.{sizes-most, answer-most, refusal-most, end-most}
-use Rattle.jobs.specs.Obeys.{Prints}
+use Rattle.jobs.specs.Prints.{Prints}
 use Rattle.jobs.proofs.Answered.{never, goes-accepted, stops-refused}
 use Rattle.jobs.specs.Job.{maxBytes, outBytes, malformed, jobTable, Came, steppedLine, endText, cameOf, printFrom, openedPrint, firstPrint, printOf}
 

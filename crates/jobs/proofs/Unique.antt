@@ -7,7 +7,7 @@ use native.Mathlib.Omega.{arith}
 use lib.ListN.{length, take, drop}
 use lib.Seq.{sets-eq, take-at}
 use Rattle.jobs.specs.Job.{outBytes, printOf}
-use Rattle.jobs.specs.Obeys.{Prints}
+use Rattle.jobs.specs.Prints.{Prints}
 use Rattle.jobs.proofs.Room.{print-fits}
 
 pub unique-run : {r q : ℕ} {was out end text : List ℕ} → Prints r was out text → Prints q was end text → (r ≡ q) × (out ≡ end)

@@ -1,3 +1,4 @@
 pub mod Job
 pub mod Course
+pub mod Prints
 pub mod Obeys

@@ -1,10 +1,9 @@
--- What the code does with a job and with a record of it, against what these come to.
+-- What the code does with a record of a job, against what it comes to.
 -- Assumes nothing.
-use Prim.Native.Nat.{ℕ, _≤_}
+use Prim.Native.Nat.{ℕ}
 use mathlib.Core.Path.{_≡_}
 use mathlib.Core.Bool.{false}
 use mathlib.Core.List.{List}
-use lib.ListN.{length, take}
 use Rattle.places.specs.declared.Sizes.{Sizes}
 use Rattle.machine.specs.Standing.{Table}
 use Rattle.kept.specs.Runs.{Stood}
@@ -23,10 +22,3 @@ pub record Obeys (z : Sizes) (d : Done) (n : ℕ) (was out : List ℕ) (u : Tabl
 pub record Stops (d : Done) (n : ℕ) (was out text : List ℕ) : Type 0 where
   pub goes : d .goes ≡ false
   pub put : Put (d .next) n was out text
-
--- the text stands at the start of out, r bytes long, and every other byte is as it was. The last two parts follow from the first: they are
--- said so that a caller may take the front r bytes
-pub record Prints (r : ℕ) (was out text : List ℕ) : Type 0 where
-  pub put : Put r 0 was out text
-  pub within : r ≤ length out
-  pub front : r ≡ length (take r out)

@@ -151,7 +151,7 @@ fn finish(z: Sizes, slots: &[u32], job: &[u8], at: usize, out: &mut [u8], n: usi
 }
 
 // The record whose kind byte stands at an offset.
-pub fn obey(
+pub(super) fn obey(
     z: Sizes,
     slots: &mut [u32],
     locks: &mut [u32],

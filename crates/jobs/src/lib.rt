@@ -1,5 +1,5 @@
 // The run of a job: its records, one after the other, over a table in local memory, and what they print.
-// Uses `desk` for the table, `job_records` for the records and `lines` for the print.
+// Uses `desk` for the table, `reader` and `job_records` for the records, `lines` and `prints` for the print, and what stands below them.
 mod doing;
 
 use doing::obey;
@@ -21,11 +21,11 @@ ghost use Rattle.standing.specs.Tables.{table};
 ghost use Rattle.kept.specs.Runs.{Stood};
 ghost use Rattle.prints.specs.Put.{Put};
 ghost use Rattle.lines.specs.Lines.{sizesLine};
-ghost use Rattle.jobs.specs.Obeys.{Prints};
+ghost use Rattle.jobs.specs.Prints.{Prints};
 ghost use Rattle.jobs.specs.Job.{maxBytes, outBytes, jobTable, printFrom, openedPrint, printOf};
 
 // The longest job.
-pub const MAX_BYTES: usize = 60000;
+const MAX_BYTES: usize = 60000;
 
 // No print is longer.
 pub const OUT_BYTES: usize = 524288;
@@ -45,9 +45,9 @@ const LANES_NUMBERS: usize = 112;
 const PATH_NUMBERS: usize = 198;
 
 // What a record has done: the offset after what was printed, and whether the job goes on.
-pub struct Done {
-    pub next: usize,
-    pub goes: bool,
+struct Done {
+    next: usize,
+    goes: bool,
 }
 
 // The records of a job from an offset on.

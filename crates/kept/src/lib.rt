@@ -1,1 +1,2 @@
-// Accepted calls keep the standing check: theorems about the definitions of the crates below. No code.
+// Accepted calls keep the standing check: theorems about the definitions. No code.
+// Uses `machine` and what stands below it.

@@ -8,7 +8,7 @@ use Rattle.places.specs.Table.{Fits}
 use Rattle.paths.specs.Path.{pathPlaces, lastOf}
 use Rattle.machine.specs.declared.Lane.{Lane}
 use Rattle.machine.specs.declared.Moved.{Moved}
-use Rattle.machine.specs.Steps.{Memory, Stepped, pathLength, actOf}
+use Rattle.machine.specs.Steps.{Memory, LaneStep, pathLength, actOf}
 use Rattle.acts.specs.Fitting.{StageFits, MemoryFits, ActFits}
 
 pub record StepFits (z : Sizes) (m : Memory) (l : Lane) : Type 0 where
@@ -19,7 +19,7 @@ pub record StepFits (z : Sizes) (m : Memory) (l : Lane) : Type 0 where
   pub act : ActFits z m (actOf z l (lastOf (m .path) (pathLength (l .stage))))
 
 -- the lent lists as they are left, the lane and the answer, against an outcome
-pub record Steps (r : Moved) (xs ls ps : List ℕ) (o : Stepped) : Type 0 where
+pub record Steps (r : Moved) (xs ls ps : List ℕ) (o : LaneStep) : Type 0 where
   pub lane : r .lane ≡ o .lane
   pub answer : r .answer ≡ o .answer
   pub slots : xs ≡ o .memory .slots

@@ -1,7 +1,6 @@
-// One step of a lane, by value: where it goes, and the step over the lent slots, locks and path.
-// Uses `acts` and what stands below it.
+// One step of a lane, by value: where it goes by its stage, and the step over the lent slots, locks and path.
+// Uses `acts`, `moves` and what stands below them.
 mod going;
-mod next;
 mod steps;
 
 pub use going::advance;

@@ -7,6 +7,7 @@ use mathlib.Core.Option.{Option, none, some}
 use Prim.Native.Nat.{ℕ, zero, suc}
 use lib.Dec.{eqb}
 
+-- "Take any sequence of accepted starts": what is asked
 pub data Op : Type 0 where
   read : ℕ → Op
   delete : ℕ → Op
@@ -53,9 +54,11 @@ until (starts lane op ∷ log) zero = []
 until (starts lane op ∷ log) (suc k) = starts lane op ∷ until log k
 until (ends lane ans ∷ log) k = ends lane ans ∷ until log k
 
+-- an operation has started
 abbrev pub Started : List Note → ℕ → Type 0
 Started log k = (op : Op) × (opOf log k ≡ some op)
 
+-- "finished operations": it has ended
 abbrev pub Finished : List Note → ℕ → Type 0
 Finished log k = (ans : Ans) × (endOf log k ≡ some ans)
 

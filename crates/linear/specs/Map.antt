@@ -16,6 +16,7 @@ Bindings = ℕ → Option ℕ
 unfoldable pub binds : Bindings → ℕ → Option ℕ → Bindings
 binds m key b k = cond (eqb k key) b (m k)
 
+-- "a no from insert"
 abbrev pub isNo : Ans → Bool
 isNo readNone = false
 isNo (readValue value) = false

@@ -13,7 +13,7 @@ use Rattle.locks.specs.declared.Grab.{Grab}
 use Rattle.locks.specs.declared.Grab.the-variants.{R1, R2, R3, R4, W1, W2}
 use Rattle.locks.specs.declared.Tried.{Tried}
 use Rattle.locks.specs.declared.Tried.the-variants.{Held, Waits}
-use Rattle.locks.specs.declared.Attempt.{Attempt}
+use Rattle.locks.specs.declared.AfterTry.{AfterTry}
 use Rattle.locks.specs.declared.Part.{Part}
 use Rattle.locks.specs.declared.Part.the-variants.{Tries, Holds}
 use Rattle.locks.specs.Locks.{withFlag, withCount, held, waits, tryLock, released, partFlag, partCount, partWrites, partReads}
@@ -44,7 +44,7 @@ abbrev pub CountsWith : Lock → Part → ℕ → ℕ → ℕ → ℕ → Type 0
 CountsWith w p f c wr rd = Counts w (f + partFlag p) (c + partCount p) (wr + partWrites p) (rd + partReads p)
 
 -- the numbers after a try
-abbrev Tells : Mode → Attempt → ℕ → ℕ → ℕ → ℕ → Type 0
+abbrev Tells : Mode → AfterTry → ℕ → ℕ → ℕ → ℕ → Type 0
 Tells m a f c wr rd = CountsWith (a .lock) (partAfter m (a .tried)) f c wr rd
 
 pub try-counts : (g : Grab) (w : Lock) (f c wr rd : ℕ) → wr ≤ f → rd ≤ c → Counts w (f + partFlag (Tries g)) (c + partCount (Tries g)) wr rd → CountsWith (tryLock g w .lock) (partAfter (grabMode g) (tryLock g w .tried)) f c wr rd

@@ -2,29 +2,15 @@
 -- Assumes nothing.
 use mathlib.Core.Path.{_≡_}
 use mathlib.Core.Logic.{_≢_}
-use mathlib.Core.List.{List}
-use Prim.Native.Nat.{ℕ, _+_, _-_, _*_, _≤_}
-use native.Mathlib.Nat.{add-zero}
-use native.Mathlib.Numerals.{add-one}
-use lib.ListN.{getD, set}
+use Prim.Native.Nat.{ℕ, _+_, _-_, _≤_}
 use borrow.Author.Tests.{eq-eqb, ne-eqb}
-use Rattle.lists.specs.Records.{cell, put}
 use Rattle.locks.specs.declared.Lock.{Lock}
 use Rattle.locks.specs.declared.Mode.{Mode}
 use Rattle.locks.specs.declared.Mode.the-variants.{Reading, Writing}
 use Rattle.locks.specs.declared.Grab.{Grab}
 use Rattle.locks.specs.declared.Grab.the-variants.{R1, R2, R3, R4, W1, W2}
-use Rattle.locks.specs.declared.Attempt.{Attempt}
-use Rattle.locks.specs.Locks.{lockAt, withLock, withFlag, withCount, held, waits, tryLock, released, grabCount, modeCount}
-
--- the two reads of `lock_at`, and the two stores of `set_lock`
-pub two-reads : (ls : List ℕ) (k : ℕ) → record { flag = getD ls (k * 2) 0; count = getD ls (k * 2 + 1) 0 } ≡ lockAt ls k
-unfolding lockAt cell
-two-reads ls k = rw add-zero
-
-pub two-stores : (ls : List ℕ) (k : ℕ) (w : Lock) → set (set ls (k * 2) (w .flag)) (k * 2 + 1) (w .count) ≡ withLock ls k w
-unfolding withLock put
-two-stores ls k w = rw add-one
+use Rattle.locks.specs.declared.AfterTry.{AfterTry}
+use Rattle.locks.specs.Locks.{withFlag, withCount, held, waits, tryLock, released, grabCount, modeCount}
 
 -- what is subtracted is in the count
 pub back-counted : (g : Grab) (w : Lock) → g ≡ R4 → grabCount g ≤ w .count → 1 ≤ w .count
@@ -33,7 +19,7 @@ back-counted g w eg h = rw eg at h
 pub read-counted : (m : Mode) (w : Lock) → m ≡ Reading → modeCount m ≤ w .count → 1 ≤ w .count
 read-counted m w em h = rw em at h
 
-module _ (g : Grab) (w : Lock) (r : Attempt) where
+module _ (g : Grab) (w : Lock) (r : AfterTry) where
   pub try-note : g ≡ R1 → r ≡ waits w (R2 (w .count)) → r ≡ tryLock g w
   unfolding tryLock
   try-note eg er = rw (eg, er)

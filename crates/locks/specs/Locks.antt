@@ -11,7 +11,7 @@ use Rattle.locks.specs.declared.Mode.the-variants.{Reading, Writing}
 use Rattle.locks.specs.declared.Grab.{Grab}
 use Rattle.locks.specs.declared.Grab.the-variants.{R1, R2, R3, R4, W1, W2}
 use Rattle.locks.specs.declared.Tried.the-variants.{Held, Waits}
-use Rattle.locks.specs.declared.Attempt.{Attempt}
+use Rattle.locks.specs.declared.AfterTry.{AfterTry}
 use Rattle.locks.specs.declared.Part.{Part}
 use Rattle.locks.specs.declared.Part.the-variants.{NoPart, Tries, Holds}
 
@@ -23,16 +23,18 @@ lockAt ls k = record { flag = cell 2 ls k 0; count = cell 2 ls k 1 }
 unfoldable pub withLock : List ℕ → ℕ → Lock → List ℕ
 withLock ls k w = put 2 ls k (w .flag ∷ w .count ∷ [])
 
+-- a lock with another flag, and with another count
 abbrev pub withFlag : Lock → ℕ → Lock
 withFlag w f = record { flag = f; count = w .count }
 
 abbrev pub withCount : Lock → ℕ → Lock
 withCount w c = record { flag = w .flag; count = c }
 
-abbrev pub held : Lock → Attempt
+-- a step that takes the lock, and one after which the lane is still at it
+abbrev pub held : Lock → AfterTry
 held w = record { lock = w; tried = Held }
 
-abbrev pub waits : Lock → Grab → Attempt
+abbrev pub waits : Lock → Grab → AfterTry
 waits w g = record { lock = w; tried = Waits g }
 
 -- how taking a lock begins: at R1 for reading, at W1 for writing
@@ -42,7 +44,7 @@ grabOf Writing = W1
 
 -- "R1 note the count. R2 if it is still that, add 1, else R1. R3 if the flag is clear the lock is held, else R4. R4 subtract 1,
 -- back to R1." "W1 if the flag is clear set it, else stay. W2 if the count is 0 the lock is held, else stay."
-unfoldable pub tryLock : Grab → Lock → Attempt
+unfoldable pub tryLock : Grab → Lock → AfterTry
 tryLock R1 w = waits w (R2 (w .count))
 tryLock (R2 noted) w = cond (eqb noted (w .count)) (waits (withCount w (w .count + 1)) R3) (waits w R1)
 tryLock R3 w = cond (eqb (w .flag) 0) (held w) (waits w R4)
@@ -64,10 +66,12 @@ grabFlag R4 = 0
 grabFlag W1 = 0
 grabFlag W2 = 1
 
+-- of a lock that is held in a mode
 abbrev pub modeFlag : Mode → ℕ
 modeFlag Reading = 0
 modeFlag Writing = 1
 
+-- of any part
 abbrev pub partFlag : Part → ℕ
 partFlag NoPart = 0
 partFlag (Tries g) = grabFlag g
@@ -82,16 +86,18 @@ grabCount R4 = 1
 grabCount W1 = 0
 grabCount W2 = 0
 
+-- of a lock that is held in a mode
 abbrev pub modeCount : Mode → ℕ
 modeCount Reading = 1
 modeCount Writing = 0
 
+-- of any part
 abbrev pub partCount : Part → ℕ
 partCount NoPart = 0
 partCount (Tries g) = grabCount g
 partCount (Holds m) = modeCount m
 
--- who holds it, for writing and for reading
+-- "none for writing while another holds it for reading": who holds it for writing, and who for reading
 abbrev pub partWrites : Part → ℕ
 partWrites NoPart = 0
 partWrites (Tries g) = 0

@@ -39,7 +39,7 @@ pub enum Tried {
 }
 
 // A lock after a step of taking it.
-pub struct Attempt {
+pub struct AfterTry {
     pub lock: Lock,
     pub tried: Tried,
 }
@@ -61,7 +61,7 @@ pub fn lock_at(locks: &[u32], k: usize) -> Lock
     }
 }
 
-pub fn set_lock(locks: &mut [u32], k: usize, w: Lock)
+fn set_lock(locks: &mut [u32], k: usize, w: Lock)
     requires { ⌜ k * 2 + 1 < length (now locks) ⌝ }
     ensures { λ _. ⌜ now (locks .exit) ≡ withLock (now (locks .entry)) k w ⌝ }
 {
@@ -87,19 +87,19 @@ fn with_count(w: Lock, count: u32) -> Lock
     }
 }
 
-fn held(w: Lock) -> Attempt
+fn held(w: Lock) -> AfterTry
     ensures { λ r. ⌜ r ≡ held w ⌝ }
 {
-    Attempt {
+    AfterTry {
         lock: w,
         tried: Tried::Held,
     }
 }
 
-fn waits(w: Lock, g: Grab) -> Attempt
+fn waits(w: Lock, g: Grab) -> AfterTry
     ensures { λ r. ⌜ r ≡ waits w g ⌝ }
 {
-    Attempt {
+    AfterTry {
         lock: w,
         tried: Tried::Waits(g),
     }
@@ -116,7 +116,7 @@ pub fn grab_of(mode: Mode) -> Grab
 }
 
 // One step of taking a lock. A lane that has added itself to the count is in it.
-pub fn try_lock(g: Grab, w: Lock) -> Attempt
+fn try_lock(g: Grab, w: Lock) -> AfterTry
     requires { ⌜ w .count < 4294967295 ⌝ }
     requires { ⌜ grabCount g ≤ w .count ⌝ }
     ensures { λ r. ⌜ r ≡ tryLock g w ⌝ }
@@ -156,7 +156,7 @@ pub fn try_lock(g: Grab, w: Lock) -> Attempt
 }
 
 // A lock once a lane that held it has let it go. A reader is in its count.
-pub fn released(m: Mode, w: Lock) -> Lock
+fn released(m: Mode, w: Lock) -> Lock
     requires { ⌜ modeCount m ≤ w .count ⌝ }
     ensures { λ r. ⌜ r ≡ released m w ⌝ }
 {

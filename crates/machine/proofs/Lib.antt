@@ -14,3 +14,5 @@ pub mod Guards
 pub mod Single
 pub mod Picks
 pub mod Own
+pub mod Refused
+pub mod Released

@@ -101,18 +101,15 @@ stage-back (Swing w) = refl
 stage-back (DropLow w) = refl
 stage-back (DropHigh w) = refl
 
--- record i of ls has the numbers of the lane l
-abbrev Reads : List ℕ → ℕ → Lane → Type 0
-Reads ls i l = (f : ℕ) → f < 14 → cell 14 ls i f ≡ getD (numbersOf l) f 0
+-- record j of ls′ has the numbers of record i of ls
+abbrev Alike : List ℕ → ℕ → List ℕ → ℕ → Type 0
+Alike ls′ j ls i = (f : ℕ) → f < 14 → cell 14 ls′ j f ≡ cell 14 ls i f
 
-reads-lane : (ls : List ℕ) (i : ℕ) (l : Lane) → Reads ls i l → laneAt ls i ≡ l
-unfolding laneAt numbersOf
-reads-lane ls i l r = λ z. record { op = op z; key = r 2 (lit< tt) z; value = r 3 (lit< tt) z; stage = stage z }
+alike-lane : (ls′ ls : List ℕ) (j i : ℕ) → Alike ls′ j ls i → laneAt ls′ j ≡ laneAt ls i
+unfolding laneAt
+alike-lane ls′ ls j i r = λ z. record { op = opOf (r 1 (lit< tt) z); key = r 2 (lit< tt) z; value = r 3 (lit< tt) z; stage = stageOf (numbers z) }
   where
-    op : opOf (cell 14 ls i 1) ≡ l .op
-    op = ap opOf (r 1 (lit< tt)) ∙ op-back (l .op)
-
-    numbers : wordsAt ls i ≡ stageWords (l .stage)
+    numbers : wordsAt ls′ j ≡ wordsAt ls i
     numbers = λ z.
         record {
           code = r 0 (lit< tt) z;
@@ -128,8 +125,21 @@ reads-lane ls i l r = λ z. record { op = op z; key = r 2 (lit< tt) z; value = r
           seen = r 13 (lit< tt) z;
         }
 
-    stage : stageOf (wordsAt ls i) ≡ l .stage
-    stage = ap stageOf numbers ∙ stage-back (l .stage)
+-- record i of ls has the numbers of the lane l
+abbrev Reads : List ℕ → ℕ → Lane → Type 0
+Reads ls i l = (f : ℕ) → f < 14 → cell 14 ls i f ≡ getD (numbersOf l) f 0
+
+-- a lane's numbers by themselves are its record
+alone-lane : (l : Lane) → laneAt (numbersOf l) 0 ≡ l
+unfolding laneAt numbersOf cell
+alone-lane l = λ z. record { op = op-back (l .op) z; key = l .key; value = l .value; stage = stage-back (l .stage) z }
+
+alone-reads : (l : Lane) (f : ℕ) → cell 14 (numbersOf l) 0 f ≡ getD (numbersOf l) f 0
+unfolding cell
+alone-reads l f = ap (λ (n : ℕ). getD (numbersOf l) n 0) (omega arith)
+
+reads-lane : (ls : List ℕ) (i : ℕ) (l : Lane) → Reads ls i l → laneAt ls i ≡ l
+reads-lane ls i l r = alike-lane ls (numbersOf l) i 0 (λ f h. r f h ∙ sym (alone-reads l f)) ∙ alone-lane l
 
 reads-decodes : (ls : List ℕ) (i : ℕ) (l : Lane) → Reads ls i l → decodes ls i ≡ true
 unfolding decodes
@@ -138,48 +148,24 @@ reads-decodes ls i l r = all-from (λ f. eqb (cell 14 ls i f) (getD (numbersOf (
     one : (f : ℕ) → f < 14 → eqb (cell 14 ls i f) (getD (numbersOf (laneAt ls i)) f 0) ≡ true
     one f h = eq-eqb _ _ (r f h ∙ ap (λ (k : Lane). getD (numbersOf k) f 0) (sym (reads-lane ls i l r)))
 
--- record j of ls′ has the numbers of record j of ls
-abbrev Alike : List ℕ → List ℕ → ℕ → Type 0
-Alike ls′ ls j = (f : ℕ) → f < 14 → cell 14 ls′ j f ≡ cell 14 ls j f
-
-alike-lane : (ls′ ls : List ℕ) (j : ℕ) → Alike ls′ ls j → laneAt ls′ j ≡ laneAt ls j
-unfolding laneAt
-alike-lane ls′ ls j r = λ z. record { op = opOf (r 1 (lit< tt) z); key = r 2 (lit< tt) z; value = r 3 (lit< tt) z; stage = stageOf (numbers z) }
-  where
-    numbers : wordsAt ls′ j ≡ wordsAt ls j
-    numbers = λ z.
-        record {
-          code = r 0 (lit< tt) z;
-          grab = r 4 (lit< tt) z;
-          noted = r 5 (lit< tt) z;
-          side = r 6 (lit< tt) z;
-          column = r 7 (lit< tt) z;
-          ending = r 8 (lit< tt) z;
-          picks = r 9 (lit< tt) z;
-          places = r 10 (lit< tt) z;
-          freeRow = r 11 (lit< tt) z;
-          freeColumn = r 12 (lit< tt) z;
-          seen = r 13 (lit< tt) z;
-        }
-
 all-same : (n : ℕ) (p q : ℕ → Bool) → ((i : ℕ) → i < n → p i ≡ q i) → allBelow n p ≡ allBelow n q
 unfolding allBelow
 all-same zero p q e = refl
 all-same (suc n) p q e = rw (all-same n p q (λ i l. e i (omega arith)), e n (omega arith))
 
-alike-decodes : (ls′ ls : List ℕ) (j : ℕ) → Alike ls′ ls j → decodes ls′ j ≡ decodes ls j
+alike-decodes : (ls′ ls : List ℕ) (j : ℕ) → Alike ls′ j ls j → decodes ls′ j ≡ decodes ls j
 unfolding decodes
 alike-decodes ls′ ls j r = all-same 14 (λ f. eqb (cell 14 ls′ j f) (getD (numbersOf (laneAt ls′ j)) f 0)) (λ f. eqb (cell 14 ls j f) (getD (numbersOf (laneAt ls j)) f 0)) one
   where
     one : (f : ℕ) → f < 14 → eqb (cell 14 ls′ j f) (getD (numbersOf (laneAt ls′ j)) f 0) ≡ eqb (cell 14 ls j f) (getD (numbersOf (laneAt ls j)) f 0)
-    one f h = rw (alike-lane ls′ ls j r, r f h)
+    one f h = rw (alike-lane ls′ ls j j r, r f h)
 
 module _ (ls : List ℕ) (i : ℕ) (l : Lane) where
   stored : i * 14 + 14 ≤ length ls → Reads (withLane ls i l) i l
   unfolding withLane numbersOf
   stored b f h = cell-same 14 ls i (numbersOf l) f refl h b
 
-  untouched : (j : ℕ) → j ≢ i → Alike (withLane ls i l) ls j
+  untouched : (j : ℕ) → j ≢ i → Alike (withLane ls i l) j ls j
   unfolding withLane numbersOf
   untouched j d f h = cell-other 14 ls i (numbersOf l) j f refl h d
 
@@ -187,7 +173,7 @@ module _ (ls : List ℕ) (i : ℕ) (l : Lane) where
   lane-same b = reads-lane (withLane ls i l) i l (stored b)
 
   pub lane-other : (j : ℕ) → j ≢ i → laneAt (withLane ls i l) j ≡ laneAt ls j
-  lane-other j d = alike-lane (withLane ls i l) ls j (untouched j d)
+  lane-other j d = alike-lane (withLane ls i l) ls j j (untouched j d)
 
   pub lane-length : length (withLane ls i l) ≡ length ls
   unfolding withLane

@@ -38,31 +38,35 @@ use Rattle.machine.specs.Steps.{mainLock, modeOf, rowOn, sharedRows, swi
 
 -- ---- "every lane number is in range for its place in the steps"
 
+-- "step: lane is idle": it has no operation
 abbrev pub isIdleOp : Op → Bool
 isIdleOp op = eqb (opCode op) 0
 
+-- "Read."
 abbrev pub isRead : Op → Bool
 isRead op = eqb (opCode op) 1
 
--- a read or a delete
+-- "Read.", "Delete.": their pass has only looks for the key
 abbrev pub onlySeeks : Op → Bool
 onlySeeks op = eqb (opCode op) 1 || eqb (opCode op) 2
 
--- a delete or an insert
+-- "after a hit one step empties the slot", "A hit is overwritten": a delete or an insert
 abbrev pub writesHit : Op → Bool
 writesHit op = ltb 1 (opCode op)
 
+-- "Insert.", in either pass
 abbrev pub isInsert : Op → Bool
 isInsert op = ltb 2 (opCode op)
 
--- an insert in its first pass, its search or its walk, and one in its second pass
+-- "Insert.", "Search.", "Walk.": until its second pass
 abbrev pub isFirstPass : Op → Bool
 isFirstPass op = eqb (opCode op) 3
 
+-- "Second pass."
 abbrev pub isSecondPass : Op → Bool
 isSecondPass op = eqb (opCode op) 4
 
--- a grab that takes a lock in this mode; a noted count is at most the number of lanes
+-- "Reading lock", "Writing lock": a grab that takes a lock in this mode; a noted count is at most the number of lanes
 abbrev pub grabIn : Sizes → Mode → Grab → Bool
 grabIn z Reading R1 = true
 grabIn z Reading (R2 noted) = leb noted (z .lanes)
@@ -77,7 +81,7 @@ grabIn z Writing R4 = false
 grabIn z Writing W1 = true
 grabIn z Writing W2 = true
 
--- which operation may come to which outcome, and to which ending
+-- "Hit: release", "Miss", "a pick step", "nothing is found or empty": which operation may come to which outcome
 abbrev pub outcomeIn : Sizes → Op → Outcome → List Bool
 outcomeIn z op (Hit side column value) = isRead op ∷ ltb column (z .columns) ∷ []
 outcomeIn z op (Wrote side) = writesHit op ∷ []
@@ -86,6 +90,7 @@ outcomeIn z op Miss = onlySeeks op ∷ []
 outcomeIn z op Picked = isFirstPass op ∷ []
 outcomeIn z op Stuck = isSecondPass op ∷ []
 
+-- "end yes", "end no (searched)", "end no (walked)": which insert may come to which ending; "The path then has H+2 places"
 abbrev pub endingIn : Sizes → Op → Ending → List Bool
 endingIn z op Yes = isInsert op ∷ []
 endingIn z op (Searched places) = isFirstPass op ∷ eqb places (z .rows + 2) ∷ []
@@ -95,6 +100,7 @@ endingIn z op Walked = isSecondPass op ∷ []
 abbrev pub trailIn : Sizes → Trail → List Bool
 trailIn z t = leb (t .picks) (z .rows) ∷ eqb (t .places) (t .picks + 1) ∷ []
 
+-- what an attempt may have found; "After attempt H+1 finds a full row" one pick more is made
 abbrev pub foundIn : Sizes → Found → Trail → List Bool
 foundIn z (Room column) t = ltb column (z .columns) ∷ trailIn z t
 foundIn z Full t = leb 1 (t .picks) ∷ leb (t .picks) (z .rows + 1) ∷ eqb (t .places) (t .picks + 1) ∷ []
@@ -129,40 +135,46 @@ stageIn z l last (Swing w) = isFirstPass (l .op) ∷ walkIn z last w
 stageIn z l last (DropLow w) = isFirstPass (l .op) ∷ walkIn z last w
 stageIn z l last (DropHigh w) = isFirstPass (l .op) ∷ not (swingRows z last w .shared) ∷ walkIn z last w
 
--- a key is a stroke, and only an insert brings a value
+-- "Keys are strokes, 0..8388607"; only an insert brings a value
 abbrev pub laneIn : Sizes → Lane → Place → List Bool
 laneIn z l last = leb (l .key) maxKey ∷ (isInsert (l .op) || eqb (l .value) 0) ∷ stageIn z l last (l .stage)
 
 -- ---- "each lane holds the locks its place calls for"
 
+-- a part in main, and parts in two row locks
 abbrev pub grip : Part → ℕ → Part → ℕ → Part → Grip
 grip main lockOne one lockTwo two = record { main = main; one = record { lock = lockOne; part = one }; two = record { lock = lockTwo; part = two } }
 
--- an insert holds main from its first row to its end
+-- "Main lock (writing), first row ..": an insert holds main from its first row to its end
 abbrev pub mainPart : Op → Part
 mainPart op = cond (isInsert op) (Holds Writing) NoPart
 
--- the second of two rows: no part of its own where both share a lock
+-- "equal locks are taken once": the second of two rows has no part of its own where both share a lock
 abbrev pub secondPart : Bool → Part → Part
 secondPart shared p = cond shared NoPart p
 
+-- of a pass: the lane's part in main, and in its home rows in locking order
 abbrev pub passGrip : Sizes → Lane → Part → Part → Grip
 passGrip z l one two = grip (mainPart (l .op)) (lockOf z (rowOn z (l .key) First)) one (lockOf z (rowOn z (l .key) Second)) two
 
+-- of the search: "read-lock the key's other row"
 abbrev pub searchGrip : Sizes → ℕ → Part → Grip
 searchGrip z row one = grip (Holds Writing) (lockOf z row) one (lockOf z row) NoPart
 
+-- of the walk: "take both rows' locks, lower first"
 abbrev pub walkGrip : Sizes → Place → Walk → Part → Part → Grip
 walkGrip z last w one two = grip (Holds Writing) (lockOf z (swingRows z last w .first)) one (lockOf z (swingRows z last w .second)) two
 
+-- a pass that has taken both rows
 abbrev pub bothRows : Sizes → Lane → Grip
 bothRows z l = passGrip z l (Holds (modeOf (l .op))) (secondPart (sharedRows z (l .key)) (Holds (modeOf (l .op))))
 
--- a hit in the first row is written before the second is taken
+-- "A hit is overwritten in one step": in the first row before the second is taken
 abbrev pub hitRows : Sizes → Lane → Side → Grip
 hitRows z l First = passGrip z l (Holds (modeOf (l .op))) NoPart
 hitRows z l Second = bothRows z l
 
+-- the locks that each stage calls for
 unfoldable pub gripAt : Sizes → Lane → Place → Stage → Grip
 gripAt z l last Idle = passGrip z l NoPart NoPart
 gripAt z l last (TakeMain g) = grip (Tries g) (mainLock z) NoPart (mainLock z) NoPart
@@ -188,6 +200,7 @@ gripAt z l last (Swing w) = walkGrip z last w (Holds Writing) (secondPart (swing
 gripAt z l last (DropLow w) = walkGrip z last w (Holds Writing) (secondPart (swingRows z last w .shared) (Holds Writing))
 gripAt z l last (DropHigh w) = walkGrip z last w NoPart (Holds Writing)
 
+-- the locks that a lane's place calls for
 abbrev pub gripOf : Sizes → Lane → Place → Grip
 gripOf z l last = gripAt z l last (l .stage)
 
@@ -195,26 +208,30 @@ gripOf z l last = gripAt z l last (l .stage)
 abbrev pub onLock : ℕ → ℕ → ℕ → ℕ
 onLock k lock n = cond (eqb k lock) n 0
 
+-- what a lane adds to lock k in all
 abbrev pub share : Sizes → (Part → ℕ) → Grip → ℕ → ℕ
 share z f g k = onLock k (mainLock z) (f (g .main)) + onLock k (g .one .lock) (f (g .one .part)) + onLock k (g .two .lock) (f (g .two .part))
 
 -- ---- "what a lane's looks have seen since it took a row's lock is, until the write they were for, still so in the rows it holds"
 
+-- columns of a row that lack the key, and columns that are full
 abbrev pub rowClaim : ℕ → ℕ → ℕ → RowClaim
 rowClaim row lacking full = record { row = row; lacking = lacking; full = full }
 
+-- nothing is claimed
 abbrev pub noClaims : Claims
 noClaims = record { one = rowClaim 0 0 0; two = rowClaim 0 0 0; slot = NoClaim }
 
--- of the first and second row: columns that lack the key, then columns that are full
+-- "columns passed seeking its key lack it, those passed seeking an empty slot are full": of the first and second row
 abbrev pub passClaims : Sizes → Lane → ℕ → ℕ → ℕ → ℕ → SlotClaim → Claims
 passClaims z l lackOne lackTwo fullOne fullTwo s =
     record { one = rowClaim (rowOn z (l .key) First) lackOne fullOne; two = rowClaim (rowOn z (l .key) Second) lackTwo fullTwo; slot = s }
 
+-- of the search, of the one row it has locked
 abbrev pub searchClaims : ℕ → ℕ → SlotClaim → Claims
 searchClaims row full s = record { one = rowClaim row 0 full; two = rowClaim 0 0 0; slot = s }
 
--- before a release of the first row, and of the second: a hit holds its key and value; a miss lacks; after a pick both rows are full
+-- before a release of the first row: "a hit holds its key", a miss lacks it in both rows, "a pick stands over full rows"
 abbrev pub dropClaims : Sizes → Lane → Outcome → Claims
 dropClaims z l (Hit side column value) = passClaims z l 0 0 0 0 (HasPair (rowOn z (l .key) side) column value)
 dropClaims z l (Wrote side) = noClaims
@@ -223,6 +240,7 @@ dropClaims z l Miss = passClaims z l (z .columns) (z .columns) 0 0 NoClaim
 dropClaims z l Picked = passClaims z l (z .columns) (z .columns) (z .columns) (z .columns) NoClaim
 dropClaims z l Stuck = passClaims z l (z .columns) (z .columns) (z .columns) (z .columns) NoClaim
 
+-- and before a release of the second row, once the first is released
 abbrev pub lateClaims : Sizes → Lane → Outcome → Claims
 lateClaims z l (Hit side column value) = passClaims z l 0 0 0 0 (HasPair (rowOn z (l .key) side) column value)
 lateClaims z l (Wrote side) = noClaims
@@ -236,10 +254,12 @@ abbrev pub roomClaims : Sizes → Lane → Side → ℕ → Claims
 roomClaims z l First column = passClaims z l (z .columns) (z .columns) column 0 (HasRoom (rowOn z (l .key) First) column)
 roomClaims z l Second column = passClaims z l (z .columns) (z .columns) (z .columns) column (HasRoom (rowOn z (l .key) Second) column)
 
+-- of an attempt: its free column is empty, or its row is full
 abbrev pub foundClaims : Sizes → Place → Found → Claims
 foundClaims z last (Room column) = searchClaims (otherRow z last) column (HasRoom (otherRow z last) column)
 foundClaims z last Full = searchClaims (last .row) (z .columns) NoClaim
 
+-- what each stage claims
 unfoldable pub claimsAt : Sizes → Lane → Place → Stage → Claims
 claimsAt z l last Idle = noClaims
 claimsAt z l last (TakeMain g) = noClaims
@@ -265,5 +285,6 @@ claimsAt z l last (Swing w) = noClaims
 claimsAt z l last (DropLow w) = noClaims
 claimsAt z l last (DropHigh w) = noClaims
 
+-- what a lane claims
 abbrev pub claimsOf : Sizes → Lane → Place → Claims
 claimsOf z l last = claimsAt z l last (l .stage)

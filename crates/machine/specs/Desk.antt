@@ -18,7 +18,7 @@ use Rattle.machine.specs.declared.Lane.{Lane}
 use Rattle.machine.specs.declared.Answer.{Answer}
 use Rattle.machine.specs.declared.Answer.the-variants.{GoesOn, ReadNone, ReadValue, Deleted, InsertYes, InsertSearched, InsertWalked}
 use Rattle.machine.specs.Lane.{laneNumbers, laneAt, withLane}
-use Rattle.machine.specs.Steps.{Memory, stepLane}
+use Rattle.machine.specs.Steps.{Memory, LaneStep, stepLane}
 use Rattle.machine.specs.Claims.{isIdleOp}
 use Rattle.machine.specs.declared.Opened.{Opened}
 use Rattle.machine.specs.declared.Opened.the-variants.{OpenAccepted, OpenBadSizes, OpenBadLengths, OpenMisshapen, OpenAstray, OpenTwice}
@@ -46,7 +46,7 @@ lengthsOk z t =
 unfoldable pub opened : Table → Table
 opened t = record { slots = t .slots; locks = emptied (t .locks); lanes = emptied (t .lanes); path = emptied (t .path) }
 
--- number and slot index of each answer of opening
+-- the numbers of 01's table for opening, with the slot index
 abbrev pub openedNumber : Opened → Finding
 openedNumber OpenAccepted = finding 0 0
 openedNumber OpenBadSizes = finding 1 0
@@ -65,6 +65,7 @@ afterOpening z t = cond (eqb (openingNumber z t .number) 0) (opened t) t
 
 -- ---- start
 
+-- the key that is asked about
 abbrev pub keyOf : Request → ℕ
 keyOf (AskRead key) = key
 keyOf (AskDelete key) = key
@@ -86,6 +87,7 @@ startAnswer z t j r =
     (cond (not (isIdleOp (laneAt (t .lanes) j .op))) StartBusy
     (cond (ltb maxKey (keyOf r)) StartBadKey StartAccepted)))))
 
+-- the numbers of 01's table for a start
 abbrev pub startNumber : Started → ℕ
 startNumber StartAccepted = 0
 startNumber StartBadSizes = 1
@@ -95,25 +97,29 @@ startNumber StartNoLane = 6
 startNumber StartBusy = 7
 startNumber StartBadKey = 10
 
+-- the start itself: the lane's record, and nothing else
 unfoldable pub started : Table → ℕ → Request → Table
 started t j r = record { slots = t .slots; locks = t .locks; lanes = withLane (t .lanes) j (begun r); path = t .path }
 
+-- "A refusal changes no lent number."
 unfoldable pub afterStart : Sizes → Table → ℕ → Request → Table
 afterStart z t j r = cond (eqb (startNumber (startAnswer z t j r)) 0) (started t j r) t
 
 -- ---- step
 
+-- a table's numbers without its lanes
 abbrev pub memoryOf : Table → Memory
 memoryOf t = record { slots = t .slots; locks = t .locks; path = t .path }
 
+-- a step's table and answer
 pub record Turn : Type 0 where
   pub table : Table
   pub answer : Answer
 
--- one step of lane j, whatever the checks say
+-- "A step is one of the items below": one step of lane j, whatever the checks say
 unfoldable pub turned : Sizes → Table → ℕ → ℕ → Turn
 turned z t j byte =
-    let s : _ = stepLane z (memoryOf t) (laneAt (t .lanes) j) byte in
+    let s : LaneStep = stepLane z (memoryOf t) (laneAt (t .lanes) j) byte in
     record {
       table = record { slots = s .memory .slots; locks = s .memory .locks; lanes = withLane (t .lanes) j (s .lane); path = s .memory .path };
       answer = s .answer;
@@ -135,12 +141,15 @@ pub record StepNumbers : Type 0 where
   pub end : ℕ
   pub value : ℕ
 
+-- a refusal has no end and no value
 abbrev pub stepRefusal : ℕ → StepNumbers
 stepRefusal n = record { number = n; end = 0; value = 0 }
 
+-- an accepted step: "the lane goes on, or its end with the result"
 abbrev pub stepEnd : ℕ → ℕ → StepNumbers
 stepEnd e v = record { number = 0; end = e; value = v }
 
+-- the end and the value of each answer
 abbrev pub answerNumbers : Answer → StepNumbers
 answerNumbers GoesOn = stepEnd 0 0
 answerNumbers ReadNone = stepEnd 1 0
@@ -150,6 +159,7 @@ answerNumbers InsertYes = stepEnd 4 0
 answerNumbers InsertSearched = stepEnd 5 0
 answerNumbers InsertWalked = stepEnd 6 0
 
+-- the numbers of 01's table for a step
 abbrev pub stepNumbers : Stepped → StepNumbers
 stepNumbers (StepDone a) = answerNumbers a
 stepNumbers StepBadSizes = stepRefusal 1
@@ -158,5 +168,6 @@ stepNumbers StepNotStanding = stepRefusal 9
 stepNumbers StepNoLane = stepRefusal 6
 stepNumbers StepIdle = stepRefusal 8
 
+-- "A refusal changes no lent number."
 unfoldable pub afterStep : Sizes → Table → ℕ → ℕ → Table
 afterStep z t j byte = cond (eqb (stepNumbers (stepAnswer z t j byte) .number) 0) (turned z t j byte .table) t

@@ -21,7 +21,7 @@ use Rattle.machine.specs.Lane.{laneAt, decodes}
 use Rattle.machine.specs.Steps.{pathLength}
 use Rattle.machine.specs.Claims.{laneIn, gripOf, share, claimsOf}
 
--- the lent numbers of a table
+-- "What the table holds": the lent numbers, slots, locks, lanes and path
 pub record Table : Type 0 where
   pub slots : List ℕ
   pub locks : List ℕ
@@ -67,6 +67,7 @@ unused ps i = allOf (eqb (placeAt ps i .row) 0 ∷ eqb (placeAt ps i .column) 0 
 abbrev pub pathUsed : Sizes → Table → ℕ
 pathUsed z t = sumBelow (z .lanes) (λ j. pathLength (laneAt (t .lanes) j .stage))
 
+-- "path places are in range, neighbours obey places_ok", "unused path places are zeros"
 unfoldable pub pathStands : Sizes → Table → Bool
 pathStands z t =
     allOf
@@ -75,12 +76,13 @@ pathStands z t =
     ∷ allBelow (pathPlaces z) (λ i. ltb i (pathUsed z t) || unused (t .path) i)
     ∷ [])
 
--- the first columns of a row lack the key, and the first columns are full
+-- "columns passed seeking its key lack it, those passed seeking an empty slot are full": the first columns of a row
 unfoldable pub rowStands : Sizes → List ℕ → ℕ → RowClaim → Bool
 rowStands z xs key c =
     allBelow (c .lacking) (λ i. not (holds (slotAt xs (slotIndex z (c .row) i)) key))
     && allBelow (c .full) (λ i. isFull (slotAt xs (slotIndex z (c .row) i)))
 
+-- "a hit holds its key", "a slot to fill is empty"
 unfoldable pub slotStands : Sizes → List ℕ → ℕ → SlotClaim → Bool
 slotStands z xs key NoClaim = true
 slotStands z xs key (HasKey row column) = holds (slotAt xs (slotIndex z row column)) key
@@ -88,10 +90,11 @@ slotStands z xs key (HasPair row column value) =
     holds (slotAt xs (slotIndex z row column)) key && eqb (slotAt xs (slotIndex z row column) .value) value
 slotStands z xs key (HasRoom row column) = isEmpty (slotAt xs (slotIndex z row column))
 
+-- all that a lane claims
 abbrev pub claimTests : Sizes → List ℕ → ℕ → Claims → List Bool
 claimTests z xs key c = rowStands z xs key (c .one) ∷ rowStands z xs key (c .two) ∷ slotStands z xs key (c .slot) ∷ []
 
--- a lane's record is a lane's, its numbers are in range, and its claims hold
+-- "every lane number is in range for its place in the steps", its record is a lane's, and what it claims "is .. still so in the rows it holds"
 unfoldable pub laneStands : Sizes → Table → ℕ → Bool
 laneStands z t j =
     allOf
@@ -99,6 +102,7 @@ laneStands z t j =
     ∷ allOf (laneIn z (laneAt (t .lanes) j) (lastAt t j))
     ∷ claimTests z (t .slots) (laneAt (t .lanes) j .key) (claimsOf z (laneAt (t .lanes) j) (lastAt t j)))
 
+-- "Standing check"
 unfoldable pub standing : Sizes → Table → Bool
 standing z t =
     allOf

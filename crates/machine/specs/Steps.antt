@@ -70,7 +70,7 @@ sharedRows z key = rowsOf z key .shared
 abbrev pub swingRows : Sizes → Place → Walk → RowPair
 swingRows z last w = lockOrder z (last .row) (w .row)
 
--- the locks that a pass has still to release after its first: the second row's, unless it is the same or was never taken
+-- "Release those held": the second row's lock is left to release, unless it is the first's or was never taken
 abbrev pub dropsTwo : Bool → Outcome → Bool
 dropsTwo shared (Hit First column value) = false
 dropsTwo shared (Hit Second column value) = not shared
@@ -90,11 +90,13 @@ outcomePlaces Miss = 0
 outcomePlaces Picked = 1
 outcomePlaces Stuck = 0
 
+-- "The path then has H+2 places"
 abbrev pub endingPlaces : Ending → ℕ
 endingPlaces Yes = 0
 endingPlaces (Searched places) = places
 endingPlaces Walked = 0
 
+-- the same of each stage
 abbrev pub pathLength : Stage → ℕ
 pathLength Idle = 0
 pathLength (TakeMain g) = 0
@@ -130,12 +132,12 @@ written Delete key value = emptySlot
 written Insert key value = fullSlot key value
 written Again key value = fullSlot key value
 
--- the row that an attempt of the search has looked through: the key's other row, or, once it was picked from, the last place's
+-- "From the last place, read-lock the key's other row": the row an attempt looked through; once it was picked from, the last place's
 abbrev pub soughtRow : Sizes → Place → Found → ℕ
 soughtRow z last (Room column) = otherRow z last
 soughtRow z last Full = last .row
 
--- the act of a lane at a stage; last is the last place on its path
+-- "Steps": the item at which a lane stands; last is the last place on its path
 unfoldable pub actAt : Sizes → Lane → Place → Stage → Act
 actAt z l last Idle = Rest
 actAt z l last (TakeMain g) = Try (mainLock z) g
@@ -161,6 +163,7 @@ actAt z l last (Swing w) = Move last (w .row) (w .column)
 actAt z l last (DropLow w) = Release (lockOf z (swingRows z last w .first)) Writing (cond (swingRows z last w .shared) (TakeOff (w .places - 1)) Keep)
 actAt z l last (DropHigh w) = Release (lockOf z (swingRows z last w .second)) Writing (TakeOff (w .places - 1))
 
+-- the item of its next step
 abbrev pub actOf : Sizes → Lane → Place → Act
 actOf z l last = actAt z l last (l .stage)
 
@@ -170,13 +173,16 @@ pub record Memory : Type 0 where
   pub locks : List ℕ
   pub path : List ℕ
 
+-- the memory after an act, and what the act saw
 pub record Performed : Type 0 where
   pub memory : Memory
   pub seen : Seen
 
+-- an act that takes no lock and looks at no slot
 abbrev pub sawNothing : Seen
 sawNothing = record { tried = Held; slot = emptySlot }
 
+-- a memory with other slots, with other locks, with another path
 abbrev pub withSlots : Memory → List ℕ → Memory
 withSlots m xs = record { slots = xs; locks = m .locks; path = m .path }
 
@@ -186,6 +192,7 @@ withLocks m ls = record { slots = m .slots; locks = ls; path = m .path }
 abbrev pub withPath : Memory → List ℕ → Memory
 withPath m ps = record { slots = m .slots; locks = m .locks; path = ps }
 
+-- "slot index = row x W + column"
 abbrev pub slotIn : Sizes → Memory → ℕ → ℕ → Slot
 slotIn z m row column = slotAt (m .slots) (slotIndex z row column)
 
@@ -231,6 +238,7 @@ perform z (Move from row column) byte m = record { memory = withSlots m (swung z
 
 -- ---- where the lane goes
 
+-- "the lane goes on"
 abbrev pub goesTo : Lane → Stage → Moved
 goesTo l stage = record { lane = record { op = l .op; key = l .key; value = l .value; stage = stage }; answer = GoesOn }
 
@@ -238,7 +246,7 @@ goesTo l stage = record { lane = record { op = l .op; key = l .key; value = l .v
 abbrev pub ends : Answer → Moved
 ends a = record { lane = idleLane; answer = a }
 
--- taking a lock: on to the next stage once it is held, else the grab goes on
+-- "the lock is held, else": on to the next stage once it is held, else the grab goes on
 abbrev pub onTry : Tried → (Grab → Stage) → Stage → Stage
 onTry Held stay next = next
 onTry (Waits g) stay next = stay g
@@ -275,6 +283,7 @@ afterRoom Delete = DropFirst Stuck
 afterRoom Insert = Pick
 afterRoom Again = DropFirst Stuck
 
+-- "It has no result beyond its end", "end yes": after the write of a hit
 abbrev pub afterWrite : Lane → Op → Moved
 afterWrite l NoOp = ends Deleted
 afterWrite l Read = ends Deleted
@@ -282,6 +291,7 @@ afterWrite l Delete = ends Deleted
 afterWrite l Insert = goesTo l (DropMain Yes)
 afterWrite l Again = goesTo l (DropMain Yes)
 
+-- "Miss: .. Release first, then second; end."
 abbrev pub afterMiss : Op → Answer
 afterMiss NoOp = ReadNone
 afterMiss Read = ReadNone
@@ -298,6 +308,7 @@ leave l Miss = ends (afterMiss (l .op))
 leave l Picked = goesTo l (TakeNext (grabOf Reading) (record { picks = 0; places = 1 }))
 leave l Stuck = goesTo l (DropMain Walked)
 
+-- "end yes", "end no (searched)", "end no (walked)"
 abbrev pub insertEnd : Ending → Answer
 insertEnd Yes = InsertYes
 insertEnd (Searched places) = InsertSearched
@@ -315,6 +326,7 @@ afterSwing l last left =
     cond (eqb left 0) (record { lane = record { op = Again; key = l .key; value = l .value; stage = TakeFirst (grabOf Writing) }; answer = GoesOn })
     (goesTo l (TakeLow (grabOf Writing) (record { places = left; row = last .row; column = last .column })))
 
+-- "a lane turns to its next item at once": where it goes from each stage
 unfoldable pub advanceAt : Sizes → Lane → Place → Seen → Stage → Moved
 advanceAt z l last seen Idle = goesTo l Idle
 advanceAt z l last seen (TakeMain g) = goesTo l (onTry (seen .tried) TakeMain (TakeFirst (grabOf (modeOf (l .op)))))
@@ -346,17 +358,20 @@ advanceAt z l last seen (Swing w) = goesTo l (DropLow w)
 advanceAt z l last seen (DropLow w) = cond (swingRows z last w .shared) (afterSwing l last (w .places - 1)) (goesTo l (DropHigh w))
 advanceAt z l last seen (DropHigh w) = afterSwing l last (w .places - 1)
 
+-- where it goes
 abbrev pub advance : Sizes → Lane → Place → Seen → Moved
 advance z l last seen = advanceAt z l last seen (l .stage)
 
 -- ---- one step of a lane
 
-pub record Stepped : Type 0 where
+-- a step: the memory, the lane and the answer after it
+pub record LaneStep : Type 0 where
   pub memory : Memory
   pub lane : Lane
   pub answer : Answer
 
-unfoldable pub stepLane : Sizes → Memory → Lane → ℕ → Stepped
+-- "A step answers that the lane goes on, or its end with the result": one step of a lane
+unfoldable pub stepLane : Sizes → Memory → Lane → ℕ → LaneStep
 stepLane z m l byte =
     let last : Place = lastOf (m .path) (pathLength (l .stage)) in
     let p : Performed = perform z (actOf z l last) byte m in

@@ -157,9 +157,9 @@ module _ (z : Sizes) (t : Table) (j byte : ℕ) (e : stepNumbers (stepAnswer z t
 -- ---- a run
 
 begun-counts : (z : Sizes) (r : Request) → CountsOf z (begun r) []
-begun-counts z (AskRead key) = record { writes = refl; full = omega arith; missed = refl; crowded = refl }
-begun-counts z (AskDelete key) = record { writes = refl; full = omega arith; missed = refl; crowded = refl }
-begun-counts z (AskInsert key value) = record { writes = refl; full = omega arith; missed = refl; crowded = refl }
+begun-counts z (AskRead key) = record { writes = refl; picks = refl; swings = refl; full = omega arith; missed = refl; crowded = refl }
+begun-counts z (AskDelete key) = record { writes = refl; picks = refl; swings = refl; full = omega arith; missed = refl; crowded = refl }
+begun-counts z (AskInsert key value) = record { writes = refl; picks = refl; swings = refl; full = omega arith; missed = refl; crowded = refl }
 
 module _ (z : Sizes) (j : ℕ) where
   by-start : (t : Table) (i : ℕ) (r : Request) (h : List Sight) → startNumber (startAnswer z t i r) ≡ 0 → CountsOf z (laneOf t j) h → Dec (i ≡ j) → CountsOf z (laneOf (next z t (start i r)) j) (cond (eqb i j) [] h)

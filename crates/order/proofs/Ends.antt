@@ -38,7 +38,7 @@ EndCounts z (some readNone) c = Unit {0}
 EndCounts z (some (readValue value)) c = Unit {0}
 EndCounts z (some deleted) c = Unit {0}
 EndCounts z (some insertYes) c = InWrite z 1 c
-EndCounts z (some insertSearched) c = InSearch (z .rows + 1) c
+EndCounts z (some insertSearched) c = InSearch (z .rows + 1) (z .rows + 2) c
 EndCounts z (some insertWalked) c = IsStuck z c
 
 module _ (z : Sizes) (f : Fits z) (l : Lane) (last : Place) (seen : Seen) (c : Tally) where
@@ -64,7 +64,7 @@ module _ (z : Sizes) (f : Fits z) (l : Lane) (last : Place) (seen : Seen) (c : T
 
   main-end : (e : Ending) → EndingCounts z e c → EndCounts z (answerOf (insertEnd e)) (more z l seen other c)
   main-end Yes h = wrote z f l seen c 1 h
-  main-end (Searched n) h = search z f l seen c (z .rows + 1) h
+  main-end (Searched n) h = search z f l seen c (z .rows + 1) (z .rows + 2) h
   main-end Walked h = stuck z f l seen c h
 
   pub end-facts : (s : Stage) (m : Moved) → Counts z (l .op) s c → Goes z l last seen s m → EndCounts z (answerOf (m .answer)) (more z l seen (item z s) c)

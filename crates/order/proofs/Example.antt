@@ -1,10 +1,11 @@
 -- A worked run, by computation: an insert that walks, a delete that waits behind it, and two reads beside it. The run stops before
--- the insert's last steps, and still has it in its order, since the last read saw what it wrote.
+-- the insert's last steps, and still has it in its order, since the last read saw what it wrote. Then short runs that show when a
+-- delete, a yes and a no take their places.
 -- Assumes nothing.
 use mathlib.Core.Path.{_≡_, refl}
 use mathlib.Core.Bool.{Bool, true, _&&_}
 use mathlib.Core.List.{List, [], _∷_, _++_}
-use mathlib.Core.Option.{some}
+use mathlib.Core.Option.{Option, none, some}
 use Prim.Native.Nat.{ℕ, _*_}
 use lib.Dec.{eqb}
 use lib.ListN.{replicate}
@@ -16,6 +17,7 @@ use Rattle.places.specs.declared.Sizes.{Sizes}
 use Rattle.places.specs.Locking.{lockOrder}
 use Rattle.places.specs.Table.{inLimits, sizesOk, slotIndex, slotCount, rowAt, homeOne, homeTwo, lockOf}
 use Rattle.slots.specs.Slot.{slotAt, withSlot, holds}
+use Rattle.slots.specs.Bound.{boundIn}
 use Rattle.slots.specs.Sound.{badShape, strays, standsBelow, faultOf, isFaulty, sound, openingFault}
 use Rattle.locks.specs.Locks.{lockAt, withLock, tryLock, released}
 use Rattle.paths.specs.Path.{placeAt, withPlace, emptied, lastOf, otherRow}
@@ -26,9 +28,12 @@ use Rattle.machine.specs.declared.Request.the-variants.{AskRead, AskDelete, Ask
 use Rattle.machine.specs.Desk.{lengthsOk, opened, openingNumber, afterOpening, startAnswer, startNumber, started, afterStart, turned, stepAnswer, stepNumbers, afterStep}
 use Rattle.machine.specs.Standing.{Table, lockStands, placeStands, linked, unused, pathStands, rowStands, slotStands, laneStands, standing}
 use Rattle.linear.specs.Log.{read, delete, insert, readValue, deleted, insertSearched, starts, ends}
-use Rattle.linear.specs.Order.{Ordered}
-use Rattle.order.specs.Run.{Event, start, step, next, Run, tableAfter, bindings, logOf, orderOf, owning, endBy}
-use Rattle.order.specs.History.{history, fullAttempts}
+use Rattle.linear.specs.Map.{binds}
+use Rattle.linear.specs.Order.{mapAfter, Ordered}
+use Rattle.order.specs.Run.{Event, start, step, next, Run, tableAfter, bindings, logOf}
+use Rattle.order.specs.Place.{owning, orderOf}
+use Rattle.order.specs.History.{history}
+use Rattle.order.specs.Demand2.{AllFull}
 use Rattle.order.proofs.Order.{order}
 
 -- ---- runs, tested
@@ -112,22 +117,47 @@ example : Ordered (bindings sizes table) (starts 0 (insert 6 7) ∷ starts 2 (de
 unfolding t₀
 example = rw (the-log, the-order) at (order sizes table events accepted (runs-run sizes t₀ events all-run))
 
--- ---- an insert into a table of two full rows of one column: three attempts find full rows, and it says no
+-- ---- when an operation takes its place: two rows of one column under one lock
 
-small : Sizes
-small = record { rows = 2; columns = 1; locks = 2; lanes = 1 }
+tiny : Sizes
+tiny = record { rows = 2; columns = 1; locks = 1; lanes = 1 }
 
-crowd : Table
-crowd = record { slots = 1 ∷ 2 ∷ 2 ∷ 1 ∷ 3 ∷ 3 ∷ []; locks = replicate 6 0; lanes = replicate laneNumbers 0; path = replicate 12 0 }
+-- these slots, as an opening leaves the rest
+opened₀ : List ℕ → Table
+opened₀ xs = record { slots = xs; locks = replicate 4 0; lanes = replicate laneNumbers 0; path = replicate 12 0 }
 
-crowded₀ : Table
-crowded₀ = afterOpening small crowd
+-- what a key is bound to in the map of the run's order, and in the slots
+beside : Table → List Event → ℕ → Option ℕ × Option ℕ
+beside t es key = (mapAfter (logOf tiny t es) (bindings tiny t) (orderOf tiny t es) key, bindings tiny (tableAfter tiny t es) key)
 
--- what its 32 steps saw, and how the last of them ends
-full-history : fullAttempts small (history small 0 crowded₀ (start 0 (AskInsert 4 7) ∷ goes 0 32)) ≡ 3
-unfolding sumBelow allBelow anyBelow firstFrom cell put lockOrder inLimits sizesOk slotIndex slotCount rowAt homeOne homeTwo lockOf slotAt withSlot holds badShape strays standsBelow faultOf isFaulty sound openingFault lockAt withLock tryLock released placeAt withPlace emptied lastOf otherRow gripAt claimsAt numbersOf laneAt withLane decodes actAt perform advanceAt stepLane lengthsOk opened openingNumber afterOpening startAnswer started afterStart turned stepAnswer afterStep lockStands placeStands linked unused pathStands rowStands slotStands laneStands standing goes small crowd crowded₀
-full-history = refl
+abbrev deletes : ℕ → List Event
+deletes n = start 0 (AskDelete 2) ∷ goes 0 n
 
-full-end : endBy (stepAnswer small (tableAfter small crowded₀ (start 0 (AskInsert 4 7) ∷ goes 0 31)) 0 0) ≡ some insertSearched
-unfolding sumBelow allBelow anyBelow firstFrom cell put lockOrder inLimits sizesOk slotIndex slotCount rowAt homeOne homeTwo lockOf slotAt withSlot holds badShape strays standsBelow faultOf isFaulty sound openingFault lockAt withLock tryLock released placeAt withPlace emptied lastOf otherRow gripAt claimsAt numbersOf laneAt withLane decodes actAt perform advanceAt stepLane lengthsOk opened openingNumber afterOpening startAnswer started afterStart turned stepAnswer afterStep lockStands placeStands linked unused pathStands rowStands slotStands laneStands standing goes small crowd crowded₀
-full-end = refl
+abbrev inserts : ℕ → List Event
+inserts n = start 0 (AskInsert 4 7) ∷ goes 0 n
+
+-- 2 has 5. A delete that has seen it has no place yet; its write is its place
+abbrev held : Table
+held = opened₀ (0 ∷ 0 ∷ 0 ∷ 1 ∷ 2 ∷ 5 ∷ [])
+
+delete-takes : (beside held (deletes 3) 2 ≡ (some 5, some 5)) × (beside held (deletes 4) 2 ≡ (none, none))
+unfolding sumBelow allBelow anyBelow firstFrom cell put lockOrder inLimits sizesOk slotIndex slotCount rowAt homeOne homeTwo lockOf slotAt withSlot holds badShape strays standsBelow faultOf isFaulty sound openingFault lockAt withLock tryLock released placeAt withPlace emptied lastOf otherRow gripAt claimsAt numbersOf laneAt withLane decodes actAt perform advanceAt stepLane lengthsOk opened openingNumber afterOpening startAnswer started afterStart turned stepAnswer afterStep lockStands placeStands linked unused pathStands rowStands slotStands laneStands standing owning boundIn binds goes tiny opened₀ beside
+delete-takes = (refl, refl)
+
+-- so of an insert that has seen room
+insert-takes : (beside held (inserts 8) 4 ≡ (none, none)) × (orderOf tiny held (inserts 9) ≡ 0 ∷ [])
+unfolding sumBelow allBelow anyBelow firstFrom cell put lockOrder inLimits sizesOk slotIndex slotCount rowAt homeOne homeTwo lockOf slotAt withSlot holds badShape strays standsBelow faultOf isFaulty sound openingFault lockAt withLock tryLock released placeAt withPlace emptied lastOf otherRow gripAt claimsAt numbersOf laneAt withLane decodes actAt perform advanceAt stepLane lengthsOk opened openingNumber afterOpening startAnswer started afterStart turned stepAnswer afterStep lockStands placeStands linked unused pathStands rowStands slotStands laneStands standing owning boundIn binds goes tiny opened₀ beside
+insert-takes = (refl, refl)
+
+-- both rows are full: three attempts find full rows, and the insert says no. Its end is its place; before, it would count as a yes
+abbrev crowd : Table
+crowd = opened₀ (1 ∷ 2 ∷ 2 ∷ 1 ∷ 3 ∷ 3 ∷ [])
+
+no-takes : (orderOf tiny crowd (inserts 28) ≡ []) × (orderOf tiny crowd (inserts 29) ≡ 0 ∷ [])
+unfolding sumBelow allBelow anyBelow firstFrom cell put lockOrder inLimits sizesOk slotIndex slotCount rowAt homeOne homeTwo lockOf slotAt withSlot holds badShape strays standsBelow faultOf isFaulty sound openingFault lockAt withLock tryLock released placeAt withPlace emptied lastOf otherRow gripAt claimsAt numbersOf laneAt withLane decodes actAt perform advanceAt stepLane lengthsOk opened openingNumber afterOpening startAnswer started afterStart turned stepAnswer afterStep lockStands placeStands linked unused pathStands rowStands slotStands laneStands standing owning boundIn binds goes tiny opened₀ beside
+no-takes = (refl, refl)
+
+-- what it saw, and what it said
+no-saw : AllFull tiny (history tiny 0 crowd (inserts 29)) × (logOf tiny crowd (inserts 29) ≡ starts 0 (insert 4 7) ∷ ends 0 insertSearched ∷ [])
+unfolding sumBelow allBelow anyBelow firstFrom cell put lockOrder inLimits sizesOk slotIndex slotCount rowAt homeOne homeTwo lockOf slotAt withSlot holds badShape strays standsBelow faultOf isFaulty sound openingFault lockAt withLock tryLock released placeAt withPlace emptied lastOf otherRow gripAt claimsAt numbersOf laneAt withLane decodes actAt perform advanceAt stepLane lengthsOk opened openingNumber afterOpening startAnswer started afterStart turned stepAnswer afterStep lockStands placeStands linked unused pathStands rowStands slotStands laneStands standing owning boundIn binds goes tiny opened₀ beside
+no-saw = (refl, refl)

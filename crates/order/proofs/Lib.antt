@@ -3,6 +3,7 @@ pub mod Ghosts
 pub mod Placed
 pub mod Moves
 pub mod Begins
+pub mod Reach
 pub mod Order
 pub mod Tally
 pub mod Counted

@@ -31,7 +31,8 @@ use Rattle.machine.proofs.Ways.{Goes, goes}
 use Rattle.kept.proofs.Does.{slots-do}
 use Rattle.kept.proofs.Stepping.{looks, solid, last-facts}
 use Rattle.kept.proofs.Kept.{StepAccepted, step-tested, step-is}
-use Rattle.order.specs.Run.{bindings, placesNow}
+use Rattle.order.specs.Run.{bindings}
+use Rattle.order.specs.Place.{placesNow}
 use Rattle.order.proofs.Binds.{BindsAt, binds-at}
 use Rattle.order.proofs.Ghosts.{ghost, Kind}
 use Rattle.order.proofs.Placed.{kind}

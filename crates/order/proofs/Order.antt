@@ -23,7 +23,8 @@ use Rattle.linear.proofs.Logs.{count}
 use Rattle.linear.proofs.Deeds.{Deed, deed, Ghost, Inv}
 use Rattle.linear.proofs.Step.{inv-open, inv-quiet, inv-take, inv-leave, inv-both, inv-begin}
 use Rattle.linear.proofs.Close.{numbers, ordered}
-use Rattle.order.specs.Run.{Event, start, step, next, Run, tableAfter, bindings, asked, answerOf, endNote, endBy, notes, logOf, placesNow, owning, orderFrom, orderOf}
+use Rattle.order.specs.Run.{Event, start, step, next, Run, tableAfter, bindings, asked, answerOf, endNote, endBy, notes, logOf}
+use Rattle.order.specs.Place.{placesNow, owning, orderFrom, orderOf}
 use Rattle.order.proofs.Ghosts.{ghost, Kind, quiet, takes, leaves, both}
 use Rattle.order.proofs.Moves.{movedBy, tableBy, step-table, step-answer, step-here, step-there, step-kind}
 use Rattle.order.proofs.Begins.{opening-slots, opening-lanes, startedBy, start-table, start-idle, start-here, start-there, begun-waits}

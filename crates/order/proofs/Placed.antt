@@ -41,7 +41,8 @@ use Rattle.machine.proofs.Ways.{Leaves, leaves-hit, leaves-ended, leaves-wrote,
 use Rattle.linear.specs.Log.{insertSearched, insertWalked}
 use Rattle.linear.specs.Map.{Bindings}
 use Rattle.linear.proofs.Deeds.{has, waits}
-use Rattle.order.specs.Run.{opAt, places}
+use Rattle.order.specs.Run.{opAt}
+use Rattle.order.specs.Place.{places}
 use Rattle.order.proofs.Binds.{BindsAt}
 use Rattle.order.proofs.Ghosts.{ghostAt, ghost, settled, ending, Kind, quiet, leaves, wrote-ended, wrote-yes, miss-answer, again-op, hit-takes, room-takes, read-takes, miss-takes, no-both}
 

@@ -15,6 +15,7 @@ use Rattle.linear.specs.Map.{saidNo, after}
 use Rattle.order.specs.Run.{Event, tableAfter, bindings, opAt, endBy}
 use Rattle.order.specs.History.{Sight, sight, history, item, isWrite, writesIn, fullAttempts, missed, crowded}
 
+-- the end is an insert's: yes, no (searched) or no (walked)
 abbrev pub endsInsert : Option Ans → Bool
 endsInsert none = false
 endsInsert (some readNone) = false
@@ -28,11 +29,11 @@ endsInsert (some insertWalked) = true
 abbrev pub AllFull : Sizes → List Sight → Type 0
 AllFull z h = fullAttempts z h ≡ z .rows + 1
 
--- "after the walk its second pass finds neither the key nor an empty slot": at no place of its two home rows
+-- "after the walk its second pass finds neither the key nor an empty slot": at no place of its two home rows. Only looks after the walk count
 abbrev pub NothingFound : Sizes → List Sight → Type 0
 NothingFound z h = (missed z h ≡ z .columns + z .columns) × (crowded z h ≡ z .columns + z .columns)
 
--- of an accepted step of lane j at table t, whose operation has seen h, this step included
+-- what an accepted step of lane j at table t owes; its operation has seen h, this step included
 pub record StepDoes (z : Sizes) (t : Table) (j byte : ℕ) (h : List Sight) : Type 0 where
   -- a step changes no key's binding, unless it is a write
   pub quiet : isWrite (item z (laneAt (t .lanes) j .stage)) ≡ false → (key : ℕ) → bindings z (afterStep z t j byte) key ≡ bindings z t key
@@ -49,6 +50,6 @@ pub record StepDoes (z : Sizes) (t : Table) (j byte : ℕ) (h : List Sight) : Ty
   -- and otherwise yes
   pub otherwise : endsInsert (endBy (stepAnswer z t j byte)) ≡ true → (AllFull z h → ⊥) → (NothingFound z h → ⊥) → endBy (stepAnswer z t j byte) ≡ some insertYes
 
--- the step that follows a run from t
+-- of the step of lane j that follows a run from t
 abbrev pub Demand2 : Sizes → Table → List Event → ℕ → ℕ → Type 0
 Demand2 z t es j byte = StepDoes z (tableAfter z t es) j byte (sight z (tableAfter z t es) j byte ∷ history z j t es)

@@ -3,26 +3,15 @@
 use mathlib.Core.Path.{_≡_, refl, sym, _∙_, ap}
 use mathlib.Core.Logic.{_≢_}
 use mathlib.Core.List.{List, [], _∷_}
-use Prim.Native.Nat.{ℕ, zero, suc, _+_, _-_, _*_, _≤_}
-use native.Mathlib.Nat.{add-zero}
-use native.Mathlib.Numerals.{add-one, add-two}
+use Prim.Native.Nat.{ℕ, zero, suc, _+_, _-_, _≤_}
+use native.Mathlib.Numerals.{add-one}
 use native.Mathlib.Omega.{arith}
-use lib.ListN.{length, getD, set, replicate}
+use lib.ListN.{length, set, replicate}
 use borrow.Author.Tests.{eq-eqb, ne-eqb}
-use Rattle.lists.specs.Records.{cell, put}
 use Rattle.places.specs.declared.Sizes.{Sizes}
 use Rattle.places.specs.Table.{homeOne, homeTwo}
 use Rattle.paths.specs.declared.Place.{Place}
-use Rattle.paths.specs.Path.{placeAt, withPlace, noPlace, emptied, lastOf, otherRow}
-
--- the three reads of `place_at`, and the three stores of `set_place`
-pub three-reads : (ps : List ℕ) (i : ℕ) → record { row = getD ps (i * 3) 0; column = getD ps (i * 3 + 1) 0; key = getD ps (i * 3 + 2) 0 } ≡ placeAt ps i
-unfolding placeAt cell
-three-reads ps i = rw add-zero
-
-pub three-stores : (ps : List ℕ) (i : ℕ) (p : Place) → set (set (set ps (i * 3) (p .row)) (i * 3 + 1) (p .column)) (i * 3 + 2) (p .key) ≡ withPlace ps i p
-unfolding withPlace put
-three-stores ps i p = rw (add-one, add-two)
+use Rattle.paths.specs.Path.{placeAt, noPlace, emptied, lastOf, otherRow}
 
 -- the last of no places, and of some
 module _ (ps : List ℕ) (n : ℕ) (r : Place) where

@@ -14,6 +14,7 @@ use Rattle.paths.specs.declared.Place.{Place}
 abbrev pub pathPlaces : Sizes → ℕ
 pathPlaces z = z .rows + 2
 
+-- a place is three numbers: row, column, key
 unfoldable pub placeAt : List ℕ → ℕ → Place
 placeAt ps i = record { row = cell 3 ps i 0; column = cell 3 ps i 1; key = cell 3 ps i 2 }
 

@@ -34,7 +34,7 @@ const LETTERS: [u8; 23] = [
     b'Z',
 ];
 
-pub fn put_byte(out: &mut [u8], at: usize, byte: u8) -> usize
+fn put_byte(out: &mut [u8], at: usize, byte: u8) -> usize
     requires { ⌜ at < length (now out) ⌝ }
     ensures { λ r. ⌜ Put r at (now (out .entry)) (now (out .exit)) (byte ∷ []) ⌝ }
 {
@@ -55,7 +55,7 @@ pub fn put_text(out: &mut [u8], at: usize, text: &[u8]) -> usize
 }
 
 // A number in decimal, with no zeros in front.
-pub fn put_number(out: &mut [u8], at: usize, n: u32) -> usize
+fn put_number(out: &mut [u8], at: usize, n: u32) -> usize
     requires { ⌜ at + length (decimal n) ≤ length (now out) ⌝ }
     ensures { λ r. ⌜ Put r at (now (out .entry)) (now (out .exit)) (decimal n) ⌝ }
 {

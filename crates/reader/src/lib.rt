@@ -5,26 +5,26 @@ use job_records::record_at;
 ghost use mathlib.Core.Path.{_≡_};
 ghost use Rattle.job_records.specs.Records.{recordAt};
 
-pub struct Reader<'a> {
-    pub job: &'a [u8],
-    pub at: usize,
+struct Reader<'a> {
+    job: &'a [u8],
+    at: usize,
 }
 
-pub fn new<'a>(job: &'a [u8]) -> Reader<'a>
+fn new<'a>(job: &'a [u8]) -> Reader<'a>
     ensures { λ r. ⌜ (r .job ≡ job .entry) × (r .at ≡ 0) ⌝ }
 {
     Reader { job, at: 0 }
 }
 
 // The same bytes, at another place.
-pub fn moved<'a>(r: Reader<'a>, at: usize) -> Reader<'a>
+fn moved<'a>(r: Reader<'a>, at: usize) -> Reader<'a>
     ensures { λ q. ⌜ (q .job ≡ r .entry .job) × (q .at ≡ at) ⌝ }
 {
     Reader { job: r.job, at }
 }
 
 // What stands at the reader's place, and the offset after it.
-pub fn next<'a>(r: Reader<'a>) -> Taken
+fn next<'a>(r: Reader<'a>) -> Taken
     ensures { λ t. ⌜ t ≡ recordAt (now (r .entry .job)) (r .entry .at) ⌝ }
 {
     record_at(r.job, r.at)

@@ -16,9 +16,12 @@ use Rattle.machine.specs.declared.Op.{Op}
 use Rattle.machine.specs.declared.Side.{Side}
 use Rattle.machine.specs.declared.Outcome.{Outcome}
 use Rattle.machine.specs.declared.Outcome.the-variants.{Hit, Wrote}
+use Rattle.machine.specs.declared.Ending.{Ending}
+use Rattle.machine.specs.declared.Found.{Found}
+use Rattle.machine.specs.declared.Trail.{Trail}
 use Rattle.machine.specs.declared.Stage.{Stage}
 use Rattle.machine.specs.declared.Lane.{Lane}
-use Rattle.machine.specs.Lane.{Words, words, opCode, opOf, sideCode, outcomeWords, outcomeOf, stageWords, stageOf, numbersOf, wordsAt, laneAt, withLane, decodes}
+use Rattle.machine.specs.Lane.{Words, words, opCode, opOf, sideCode, outcomeWords, outcomeOf, endingWords, foundWords, stageWords, stageOf, numbersOf, wordsAt, laneAt, withLane, decodes}
 
 -- what a match on a number knows past its keys 0 to k - 1
 abbrev Misses : ℕ → ℕ → Type 0
@@ -67,7 +70,16 @@ module _ (code n : ℕ) (side : Side) (o : Outcome) (w : Words) (e : n ≡ sideC
   pub wrote-words : w ≡ words code 0 0 n 0 2 0 0 0 0 → o ≡ Wrote side → w ≡ outcomeWords code o
   wrote-words v h = rw (h, v, e)
 
--- the numbers of a stage, once it is known which one
+-- the numbers of an outcome, an ending, a find and a stage, once it is known which one
+pub by-outcome : (code : ℕ) (o p : Outcome) {w : Words} → o ≡ p → w ≡ outcomeWords code p → w ≡ outcomeWords code o
+by-outcome code o p e v = v ∙ ap (outcomeWords code) (sym e)
+
+pub by-end : (d e : Ending) {w : Words} → d ≡ e → w ≡ endingWords e → w ≡ endingWords d
+by-end d e q v = v ∙ ap endingWords (sym q)
+
+pub by-found : (f g : Found) (t : Trail) {w : Words} → f ≡ g → w ≡ foundWords g t → w ≡ foundWords f t
+by-found f g t e v = v ∙ ap (λ (x : Found). foundWords x t) (sym e)
+
 pub by-stage : (s t : Stage) {w : Words} → s ≡ t → w ≡ stageWords t → w ≡ stageWords s
 by-stage s t e v = v ∙ ap stageWords (sym e)
 

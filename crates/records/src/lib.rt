@@ -1,5 +1,5 @@
 // The 14 numbers of a lane as lent: the number of each choice and back, the numbers of a stage and back, a lane read and written,
-// and whether 14 numbers are those of a lane. Uses `machine` and what stands below it.
+// whether it is idle, and whether 14 numbers are those of a lane. Uses `machine` and what stands below it.
 use locks::Grab;
 use machine::Ending;
 use machine::Found;
@@ -13,26 +13,27 @@ use machine::Walk;
 ghost use mathlib.Core.Path.{_≡_};
 ghost use Prim.Native.Nat.{_+_, _*_, _<_};
 ghost use lib.ListN.{length};
-ghost use Rattle.machine.specs.Lane.{opCode, opOf, grabCode, grabNoted, grabFrom, sideCode, sideOf, outcomeWords, outcomeOf, words, endingWords, endingOf, foundWords, foundOf, walkWords, stageWords, stageOf, trailOf, walkOf, wordsAt, laneAt, withLane};
+ghost use Rattle.machine.specs.Lane.{opCode, opOf, grabCode, grabNoted, grabFrom, sideCode, sideOf, outcomeWords, outcomeOf, words, endingWords, endingOf, foundWords, foundOf, walkWords, stageWords, stageOf, wordsAt, laneAt, withLane};
 ghost use Rattle.machine.specs.Lane.{decodes as Lane·decodes};
+ghost use Rattle.machine.specs.Claims.{isIdleOp};
 ghost use Rattle.records.specs.StageWords.{asWords};
 
 // How many numbers a lane takes.
 pub const LANE_NUMBERS: usize = 14;
 
 // The numbers of a stage, 0 where it has no use for one.
-pub struct StageWords {
-    pub code: u32,
-    pub grab: u32,
-    pub noted: u32,
-    pub side: u32,
-    pub column: u32,
-    pub ending: u32,
-    pub picks: u32,
-    pub places: u32,
-    pub freerow: u32,
-    pub freecolumn: u32,
-    pub seen: u32,
+struct StageWords {
+    code: u32,
+    grab: u32,
+    noted: u32,
+    side: u32,
+    column: u32,
+    ending: u32,
+    picks: u32,
+    places: u32,
+    freerow: u32,
+    freecolumn: u32,
+    seen: u32,
 }
 
 pub fn op_code(op: Op) -> u32
@@ -45,6 +46,14 @@ pub fn op_code(op: Op) -> u32
         Op::Insert => 3,
         Op::Again => 4,
     }
+}
+
+// The lane does nothing.
+pub fn is_idle(lane: Lane) -> bool
+    ensures { λ r. ⌜ r ≡ isIdleOp (lane .op) ⌝ }
+{
+    let op = lane.op;
+    op_code(op) == 0
 }
 
 fn op_of(code: u32) -> Op
@@ -304,7 +313,7 @@ fn found_of(w: StageWords) -> Found
 }
 
 // The numbers of a stage.
-pub fn stage_words(stage: Stage) -> StageWords
+fn stage_words(stage: Stage) -> StageWords
     ensures { λ r. ⌜ asWords r ≡ stageWords stage ⌝ }
 {
     let start = Trail {
@@ -339,7 +348,7 @@ pub fn stage_words(stage: Stage) -> StageWords
 }
 
 // The stage that these numbers are read as.
-pub fn stage_of(w: StageWords) -> Stage
+fn stage_of(w: StageWords) -> Stage
     ensures { λ r. ⌜ r ≡ stageOf (asWords w) ⌝ }
 {
     let grab = grab_from(w.grab, w.noted);

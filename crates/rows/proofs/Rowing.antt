@@ -5,7 +5,6 @@ use mathlib.Core.Bool.{Bool}
 use Prim.Native.Nat.{ℕ}
 use Rattle.places.specs.declared.Sizes.{Sizes}
 use Rattle.places.specs.declared.RowPair.{RowPair}
-use Rattle.places.specs.Table.{lockOf}
 use Rattle.places.specs.Locking.{rowsOf}
 use Rattle.paths.specs.declared.Place.{Place}
 use Rattle.paths.specs.Path.{otherRow}
@@ -14,7 +13,7 @@ use Rattle.machine.specs.declared.Side.the-variants.{First, Second}
 use Rattle.machine.specs.declared.Outcome.{Outcome}
 use Rattle.machine.specs.declared.Outcome.the-variants.{Hit, Wrote}
 use Rattle.machine.specs.declared.Found.{Found}
-use Rattle.machine.specs.declared.Found.the-variants.{Room, Full}
+use Rattle.machine.specs.declared.Found.the-variants.{Room}
 use Rattle.machine.specs.Steps.{rowOn, dropsTwo, soughtRow}
 
 module _ (z : Sizes) (key : ℕ) (side : Side) (rows : RowPair) where
@@ -34,3 +33,6 @@ module _ (shared : Bool) (o : Outcome) (r : Bool) (side : Side) where
 
   pub drops-wrote : o ≡ Wrote side → r ≡ dropsTwo shared (Wrote side) → r ≡ dropsTwo shared o
   drops-wrote eo er = rw eo er
+
+pub sought-room : (z : Sizes) (last : Place) (f : Found) (column r : ℕ) → f ≡ Room column → r ≡ otherRow z last → r ≡ soughtRow z last f
+sought-room z last f column r ef er = rw (ef, er)

@@ -1,5 +1,5 @@
 // Reads a job from standard input and writes what it prints. One byte more than the longest job is read, so that a longer one is seen.
-// Uses `jobs`.
+// Uses `jobs`, and the kit's `io` and `libc`.
 use jobs::OUT_BYTES;
 use libc::STDIN_FILENO;
 use libc::STDOUT_FILENO;

@@ -1,5 +1,5 @@
 // Runs 01's row cases and some lists of slots, and prints what `places` and `slots` say of each. The stored output is beside
-// src/. Uses `places` and `slots`.
+// src/. Uses `places` and `slots`, and the kit's `io` and `libc`.
 use libc::STDOUT_FILENO;
 use places::Sizes;
 use slots::Checked;

@@ -23,8 +23,8 @@ use Rattle.machine.specs.Standing.{lockStands}
 use Rattle.machine.proofs.Single.{on-le}
 use Rattle.holds.specs.declared.held.Shares.{Shares}
 use Rattle.holds.specs.Shares.{sharesOf}
-use Rattle.holds.proofs.Tested.{flag-low, count-low, writes-low, reads-low}
-use Rattle.standing.specs.Tables.{locksTable}
+use Rattle.holds.proofs.Low.{flag-low, count-low, writes-low, reads-low}
+use Rattle.standing.specs.Partial.{locksTable}
 use Rattle.standing.specs.Looks.{lengthAt}
 use Rattle.standing.specs.Parts.{gripIn, sharesAt, partsTo, sharesTo, added, AtMost}
 

@@ -29,7 +29,8 @@ use Rattle.machine.specs.Lane.{laneAt, decodes}
 use Rattle.machine.specs.Steps.{pathLength}
 use Rattle.machine.specs.Claims.{laneIn, claimsOf}
 use Rattle.machine.specs.Standing.{linked, unused, rowStands, slotStands, claimTests, laneStands, pathStands, lockStands, standing}
-use Rattle.standing.specs.Tables.{table, lanesTable, pathTable, locksTable}
+use Rattle.standing.specs.Tables.{table}
+use Rattle.standing.specs.Partial.{lanesTable, pathTable, locksTable}
 use Rattle.standing.specs.Looks.{lacksAt, fullAt, placedAt, clearedAt, lengthAt}
 
 -- of three tests the second fails, or the third decides

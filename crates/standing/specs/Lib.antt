@@ -1,3 +1,4 @@
 pub mod Tables
+pub mod Partial
 pub mod Looks
 pub mod Parts

@@ -2,11 +2,11 @@
 use super::reads::last_place;
 use super::reads::slot_of;
 use holds::claims_of;
-use holds::lane_in;
 use machine::Claims;
 use machine::RowClaim;
 use machine::SlotClaim;
 use places::Sizes;
+use ranges::lane_in;
 use records::decodes;
 use records::lane_at;
 use slots::holds_key;
@@ -20,7 +20,7 @@ ghost use Rattle.places.specs.Table.{Fits, slotCount};
 ghost use Rattle.paths.specs.Path.{pathPlaces};
 ghost use Rattle.machine.specs.Lane.{laneNumbers};
 ghost use Rattle.machine.specs.Standing.{rowStands, slotStands, claimTests, laneStands};
-ghost use Rattle.standing.specs.Tables.{lanesTable};
+ghost use Rattle.standing.specs.Partial.{lanesTable};
 ghost use Rattle.standing.specs.Looks.{lacksAt, fullAt};
 
 // The first columns of a row lack the key.

@@ -13,7 +13,7 @@ ghost use Rattle.places.specs.Table.{Fits};
 ghost use Rattle.paths.specs.Path.{pathPlaces};
 ghost use Rattle.machine.specs.Lane.{laneNumbers};
 ghost use Rattle.machine.specs.Standing.{lockStands};
-ghost use Rattle.standing.specs.Tables.{locksTable};
+ghost use Rattle.standing.specs.Partial.{locksTable};
 ghost use Rattle.standing.specs.Parts.{sharesAt, sharesTo, AtMost};
 ghost use Rattle.standing.specs.Parts.{added as Parts·added};
 

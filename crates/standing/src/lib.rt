@@ -1,4 +1,4 @@
-// The standing check of a table: its slots, every lane, the path and every lock. Uses `holds`, `acts`, `records`
+// The standing check of a table: its slots, every lane, the path and every lock. Uses `ranges`, `holds`, `acts`, `records`
 // and what stands below them.
 mod claims;
 mod counts;
@@ -20,7 +20,8 @@ ghost use Rattle.slots.specs.Sound.{sound};
 ghost use Rattle.paths.specs.Path.{pathPlaces};
 ghost use Rattle.machine.specs.Lane.{laneNumbers};
 ghost use Rattle.machine.specs.Standing.{laneStands, lockStands, standing};
-ghost use Rattle.standing.specs.Tables.{table, lanesTable, locksTable, Lengths};
+ghost use Rattle.standing.specs.Tables.{table};
+ghost use Rattle.standing.specs.Partial.{lanesTable, locksTable, Lengths};
 
 // The slots are sound.
 fn slots_sound(z: Sizes, slots: &[u32]) -> bool

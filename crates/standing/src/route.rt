@@ -17,7 +17,7 @@ ghost use Rattle.paths.specs.Path.{pathPlaces};
 ghost use Rattle.machine.specs.Lane.{laneNumbers};
 ghost use Rattle.machine.specs.Standing.{placeStands, pathStands};
 ghost use Rattle.machine.specs.Standing.{linked as Standing·linked, unused as Standing·unused};
-ghost use Rattle.standing.specs.Tables.{pathTable};
+ghost use Rattle.standing.specs.Partial.{pathTable};
 ghost use Rattle.standing.specs.Looks.{placedAt, clearedAt, lengthAt, mostUsed};
 
 // How many places are on the path.

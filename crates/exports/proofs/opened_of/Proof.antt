@@ -7,67 +7,31 @@ use native.Mathlib.Omega.{arith}
 use Rattle.exports.proofs.opened_of.Statement.{statement}
 use Rattle.exports.proofs.opened_of.Tie as tie
 
-enum-told : tie.Need-enum-told
-enum-told c = search needs
-
-enum-told-2 : tie.Need-enum-told-2
-enum-told-2 c = search needs
-
-enum-told-3 : tie.Need-enum-told-3
-enum-told-3 c = search needs
-
-enum-known-o : tie.Need-enum-known-o
-enum-known-o c = search needs
-
 cast-t6 : tie.Need-cast-t6
 cast-t6 c = let low : c .before .o .given .0 .0 ≤ 512 = search misshapen-low in omega arith
-
-enum-known-o-2 : tie.Need-enum-known-o-2
-enum-known-o-2 c = search needs
 
 cast-t7 : tie.Need-cast-t7
 cast-t7 c = let low : c .before .o2 .given .0 .0 ≤ 512 = search astray-low in omega arith
 
-enum-known-o-3 : tie.Need-enum-known-o-3
-enum-known-o-3 c = search needs
-
 cast-t8 : tie.Need-cast-t8
 cast-t8 c = let low : c .before .o3 .given .0 .0 ≤ 512 = search twice-low in omega arith
-
-returns : tie.Need-returns
-returns c = search by-opened
-
-returns-2 : tie.Need-returns-2
-returns-2 c = search by-opened
-
-returns-3 : tie.Need-returns-3
-returns-3 c = search by-opened
-
-returns-4 : tie.Need-returns-4
-returns-4 c = search by-opened
-
-returns-5 : tie.Need-returns-5
-returns-5 c = search by-opened
-
-returns-6 : tie.Need-returns-6
-returns-6 c = search by-opened
 
 pub opened-of-spec : {M : Type 1} → statement M
 opened-of-spec =
     tie.close
     (tie.spec
-    enum-told
-    enum-told-2
-    enum-told-3
-    enum-known-o
+    (λ c. search needs)
+    (λ c. search needs)
+    (λ c. search needs)
+    (λ c. search needs)
     cast-t6
-    enum-known-o-2
+    (λ c. search needs)
     cast-t7
-    enum-known-o-3
+    (λ c. search needs)
     cast-t8
-    returns
-    returns-2
-    returns-3
-    returns-4
-    returns-5
-    returns-6)
+    (λ c. search by-opened)
+    (λ c. search by-opened)
+    (λ c. search by-opened)
+    (λ c. search by-opened)
+    (λ c. search by-opened)
+    (λ c. search by-opened))

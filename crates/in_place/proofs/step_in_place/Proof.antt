@@ -41,7 +41,7 @@ use denote.Triple.Table.{entered, cited}
 use denote.Triple.Walked.{says, needs, Stays, stay-none, stay-ref, gave-slice, walkOf, goes-none, goes-ref, goes-gave-slice, Walks, ends-at, walked, walk-meets}
 use denote.Exit.{yes}
 use denote.Signature.{plain}
-use Rattle.machine.specs.Steps.{Stepped, stepLane}
+use Rattle.machine.specs.Steps.{LaneStep, stepLane}
 use Rattle.acts.specs.Fitting.{memory}
 use Rattle.lanes.specs.Fitting.{StepFits, Steps}
 use Rattle.places.specs.declared.Sizes.{Sizes}
@@ -121,7 +121,7 @@ module _ {M : Type 1} (𝓤 : URA M) (H : Heap 𝓤) (A : Atoms 𝓤) (W : Given
   abbrev Post : Val → SProp 𝓤
   Post = walkOf 𝓤 H A f.ended stayed (f.clauses 𝓤 H A at-mem run) .post (((κ₀, (κ₁, (κ₂, (κ₃, tt)))), (q₀, (q₁, (q₂, (q₃, tt)))), tt, a, vals), tt)
 
-  abbrev out : Stepped
+  abbrev out : LaneStep
   out = stepLane z (memory xs-slots xs-locks xs-path) l byte
 
   -- what the callee's triple binds outside: the slices' own lifetimes, shares and values, and the struct by value

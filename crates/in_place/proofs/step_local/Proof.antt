@@ -45,7 +45,7 @@ use denote.Signature.{plain}
 use Rattle.places.specs.declared.Sizes.{Sizes}
 use Rattle.places.proofs.Sizes as Z
 use Rattle.places.proofs.Sizes.Laws as Z′
-use Rattle.machine.specs.Steps.{Stepped, stepLane}
+use Rattle.machine.specs.Steps.{LaneStep, stepLane}
 use Rattle.machine.specs.declared.Lane.{Lane}
 use Rattle.machine.specs.declared.Answer.{Answer}
 use Rattle.machine.specs.declared.Moved.{Moved}
@@ -128,7 +128,7 @@ module _ {M : Type 1} (𝓤 : URA M) (H : Heap 𝓤) (A : Atoms 𝓤) (W : Given
   abbrev Post : Val → SProp 𝓤
   Post = walkOf 𝓤 H A f.ended stayed (f.clauses 𝓤 H A at-mem run) .post (((κ₀, (κ₁, (κ₂, tt))), (q₀, (q₁, (q₂, tt))), tt, a, vals), tt)
 
-  abbrev out : Stepped
+  abbrev out : LaneStep
   out = stepLane z (memory xs-slots xs-locks xs-path) l byte
 
   -- what `step_in_place`'s triple binds outside: the slices' own lifetimes, shares and values, and the local at the block k, lent for the lifetime α under the name δ

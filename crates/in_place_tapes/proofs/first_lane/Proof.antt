@@ -4,11 +4,8 @@ use borrow.Author.Needs.{needs}
 use Rattle.in_place_tapes.proofs.first_lane.Statement.{statement}
 use Rattle.in_place_tapes.proofs.first_lane.Tie as tie
 
-grab-of-requires : tie.Need-grab-of-requires
-grab-of-requires c κs = search needs
-
 returns : tie.Need-returns
 returns c = rw (c .grab-of .ensures)
 
 pub first-lane-spec : {M : Type 1} → statement M
-first-lane-spec = tie.close (tie.spec grab-of-requires returns)
+first-lane-spec = tie.close (tie.spec (λ c κs. search needs) returns)

@@ -9,18 +9,6 @@ use Rattle.job_records.proofs.record_at.Tie as tie
 returns : tie.Need-returns
 returns c = search no-byte
 
-shared-slice-read-kind : tie.Need-shared-slice-read-kind
-shared-slice-read-kind c = search needs
-
-body-length-requires : tie.Need-body-length-requires
-body-length-requires c κs = search needs
-
-is-known-requires : tie.Need-is-known-requires
-is-known-requires c κs = search needs
-
-sub-if2 : tie.Need-sub-if2
-sub-if2 c = search needs
-
 body-at-requires : tie.Need-body-at-requires
 body-at-requires c κs = search in-front
 
@@ -41,10 +29,10 @@ record-at-spec =
     tie.close
     (tie.spec
     returns
-    shared-slice-read-kind
-    body-length-requires
-    is-known-requires
-    sub-if2
+    (λ c. search needs)
+    (λ c κs. search needs)
+    (λ c κs. search needs)
+    (λ c. search needs)
     body-at-requires
     add-t15
     add-t16

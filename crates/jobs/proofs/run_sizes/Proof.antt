@@ -7,23 +7,11 @@ use Rattle.jobs.proofs.Begins.{sizes-good, sizes-bad}
 use Rattle.jobs.proofs.run_sizes.Statement.{statement}
 use Rattle.jobs.proofs.run_sizes.Tie as tie
 
-sizes-ok-requires : tie.Need-sizes-ok-requires
-sizes-ok-requires c κs = search needs
-
 run-table-requires : tie.Need-run-table-requires
 run-table-requires c κs = (sym (c .before .before .sizes-ok .ensures) ∙ c .before .if1 .taken, (omega arith, (omega arith, (omega arith, omega arith))))
 
-put-refusal-requires : tie.Need-put-refusal-requires
-put-refusal-requires c κs = search needs
-
-same-length : tie.Need-same-length
-same-length c = search needs
-
 returns : tie.Need-returns
 returns c = search sizes-good
-
-same-length-2 : tie.Need-same-length-2
-same-length-2 c = search needs
 
 returns-2 : tie.Need-returns-2
 returns-2 c = search sizes-bad
@@ -32,10 +20,10 @@ pub run-sizes-spec : {M : Type 1} → statement M
 run-sizes-spec =
     tie.close
     (tie.spec
-    sizes-ok-requires
+    (λ c κs. search needs)
     run-table-requires
-    put-refusal-requires
-    same-length
+    (λ c κs. search needs)
+    (λ c. search needs)
     returns
-    same-length-2
+    (λ c. search needs)
     returns-2)

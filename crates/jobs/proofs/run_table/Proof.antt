@@ -16,33 +16,6 @@ slot-count-requires c κs = ok-fits _ (c .before .before .pre .0)
 mul-slots-end : tie.Need-mul-slots-end
 mul-slots-end c = omega (arith, slots-few _ (ok-fits _ (c .before .before .before .pre .0)))
 
-cast-locks-end : tie.Need-cast-locks-end
-cast-locks-end c = search needs
-
-add-locks-end : tie.Need-add-locks-end
-add-locks-end c = search needs
-
-mul-locks-end : tie.Need-mul-locks-end
-mul-locks-end c = search needs
-
-cast-lanes-end : tie.Need-cast-lanes-end
-cast-lanes-end c = search needs
-
-mul-lanes-end : tie.Need-mul-lanes-end
-mul-lanes-end c = search needs
-
-cast-path-end : tie.Need-cast-path-end
-cast-path-end c = search needs
-
-add-path-end : tie.Need-add-path-end
-add-path-end c = search needs
-
-mul-path-end : tie.Need-mul-path-end
-mul-path-end c = search needs
-
-put-sizes-requires : tie.Need-put-sizes-requires
-put-sizes-requires c κs = search needs
-
 array-borrow-prefix-slots : tie.Need-array-borrow-prefix-slots
 array-borrow-prefix-slots c = omega (arith, slots-few _ (ok-fits _ (c .before .before .before .before .before .before .before .before .before .before .pre .0)))
 
@@ -70,9 +43,6 @@ slice-aggregate-run-records-4 c = sym (length-take-le _ _ (omega (arith, ok-fits
 run-records-requires : tie.Need-run-records-requires
 run-records-requires c κs = (lent-stood _ (c .before .before .before .before .before .before .before .before .before .before .before .before .before .before .before .pre .0) _ (c .before .before .before .before .before .before .before .before .before .before .before .before .slot-count .ensures), (omega arith, (omega arith, (omega arith, (omega (arith, sizes-most (c .before .before .before .before .before .before .before .before .before .before .before .before .before .before .before .args .z)), omega arith)))))
 
-same-length : tie.Need-same-length
-same-length c = search needs
-
 returns : tie.Need-returns
 returns c = table-joined _ (c .before .before .before .before .before .before .before .before .before .before .before .before .before .before .before .before .before .before .before .before .before .before .pre .0) _ (c .before .before .before .before .before .before .before .before .before .before .before .before .before .before .before .before .before .before .before .slot-count .ensures) _ _ _ _ _ _ _ _ (c .before .before .before .before .before .before .before .before .before .before .before .before .before .before .put-sizes .ensures) (c .before .before .before .before .before .before .run-records .ensures)
 
@@ -82,15 +52,15 @@ run-table-spec =
     (tie.spec
     slot-count-requires
     mul-slots-end
-    cast-locks-end
-    add-locks-end
-    mul-locks-end
-    cast-lanes-end
-    mul-lanes-end
-    cast-path-end
-    add-path-end
-    mul-path-end
-    put-sizes-requires
+    (λ c. search needs)
+    (λ c. search needs)
+    (λ c. search needs)
+    (λ c. search needs)
+    (λ c. search needs)
+    (λ c. search needs)
+    (λ c. search needs)
+    (λ c. search needs)
+    (λ c κs. search needs)
     array-borrow-prefix-slots
     slice-aggregate-run-records
     array-borrow-prefix-locks
@@ -100,5 +70,5 @@ run-table-spec =
     array-borrow-prefix-path
     slice-aggregate-run-records-4
     run-records-requires
-    same-length
+    (λ c. search needs)
     returns)

@@ -8,26 +8,14 @@ use Rattle.prints.proofs.Strokes.{stroke-length}
 use Rattle.lines.proofs.put_pair.Statement.{statement}
 use Rattle.lines.proofs.put_pair.Tie as tie
 
-put-place-requires : tie.Need-put-place-requires
-put-place-requires c κs = search needs
-
 put-stroke-requires : tie.Need-put-stroke-requires
 put-stroke-requires c κs = omega (arith, place-most (c .before .before .before .before .before .before .args .row) (c .before .before .before .before .before .before .args .column))
-
-slice-aggregate-put-labelled : tie.Need-slice-aggregate-put-labelled
-slice-aggregate-put-labelled c = search needs
 
 put-labelled-requires : tie.Need-put-labelled-requires
 put-labelled-requires c κs = omega (arith, stroke-length (c .before .before .before .before .before .before .before .before .before .before .before .args .s .key), place-most (c .before .before .before .before .before .before .before .before .before .before .before .args .row) (c .before .before .before .before .before .before .before .before .before .before .before .args .column))
 
-slice-aggregate-put-text : tie.Need-slice-aggregate-put-text
-slice-aggregate-put-text c = search needs
-
 put-text-requires : tie.Need-put-text-requires
 put-text-requires c κs = omega (arith, stroke-length (c .before .before .before .before .before .before .before .before .before .before .before .before .before .before .before .before .args .s .key), place-most (c .before .before .before .before .before .before .before .before .before .before .before .before .before .before .before .before .args .row) (c .before .before .before .before .before .before .before .before .before .before .before .before .before .before .before .before .args .column))
-
-same-length : tie.Need-same-length
-same-length c = search needs
 
 returns : tie.Need-returns
 returns c = search pair-joined
@@ -36,11 +24,11 @@ pub put-pair-spec : {M : Type 1} → statement M
 put-pair-spec =
     tie.close
     (tie.spec
-    put-place-requires
+    (λ c κs. search needs)
     put-stroke-requires
-    slice-aggregate-put-labelled
+    (λ c. search needs)
     put-labelled-requires
-    slice-aggregate-put-text
+    (λ c. search needs)
     put-text-requires
-    same-length
+    (λ c. search needs)
     returns)

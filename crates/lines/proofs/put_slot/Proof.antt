@@ -5,21 +5,6 @@ use Rattle.lines.proofs.Full.{full-slot, no-slot}
 use Rattle.lines.proofs.put_slot.Statement.{statement}
 use Rattle.lines.proofs.put_slot.Tie as tie
 
-is-full-requires : tie.Need-is-full-requires
-is-full-requires c κs = search needs
-
-div-put-pair : tie.Need-div-put-pair
-div-put-pair c = search needs
-
-rem-put-pair : tie.Need-rem-put-pair
-rem-put-pair c = search needs
-
-put-pair-requires : tie.Need-put-pair-requires
-put-pair-requires c κs = search needs
-
-same-length : tie.Need-same-length
-same-length c = search needs
-
 returns : tie.Need-returns
 returns c = search full-slot
 
@@ -30,10 +15,10 @@ pub put-slot-spec : {M : Type 1} → statement M
 put-slot-spec =
     tie.close
     (tie.spec
-    is-full-requires
-    div-put-pair
-    rem-put-pair
-    put-pair-requires
-    same-length
+    (λ c κs. search needs)
+    (λ c. search needs)
+    (λ c. search needs)
+    (λ c κs. search needs)
+    (λ c. search needs)
     returns
     returns-2)

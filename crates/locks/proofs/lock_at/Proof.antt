@@ -1,43 +1,25 @@
 -- `lock_at` is its definition: two reads are one record.
 -- Assumes nothing.
+use native.Mathlib.Nat.{add-zero}
 use borrow.Author.Needs.{needs}
-use Rattle.locks.proofs.Turns.{two-reads}
+use Rattle.lists.specs.Records.{cell}
+use Rattle.locks.specs.Locks.{lockAt}
 use Rattle.locks.proofs.lock_at.Statement.{statement}
 use Rattle.locks.proofs.lock_at.Tie as tie
 
-mul-t3 : tie.Need-mul-t3
-mul-t3 c = search needs
-
-mul-t4 : tie.Need-mul-t4
-mul-t4 c = search needs
-
-shared-slice-read-t6 : tie.Need-shared-slice-read-t6
-shared-slice-read-t6 c = search needs
-
-mul-t7 : tie.Need-mul-t7
-mul-t7 c = search needs
-
-add-t8 : tie.Need-add-t8
-add-t8 c = search needs
-
-mul-t9 : tie.Need-mul-t9
-mul-t9 c = search needs
-
-shared-slice-read-t11 : tie.Need-shared-slice-read-t11
-shared-slice-read-t11 c = search needs
-
 returns : tie.Need-returns
-returns c = two-reads _ _
+unfolding lockAt cell
+returns c = rw add-zero
 
 pub lock-at-spec : {M : Type 1} → statement M
 lock-at-spec =
     tie.close
     (tie.spec
-    mul-t3
-    mul-t4
-    shared-slice-read-t6
-    mul-t7
-    add-t8
-    mul-t9
-    shared-slice-read-t11
+    (λ c. search needs)
+    (λ c. search needs)
+    (λ c. search needs)
+    (λ c. search needs)
+    (λ c. search needs)
+    (λ c. search needs)
+    (λ c. search needs)
     returns)

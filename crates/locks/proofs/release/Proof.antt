@@ -4,21 +4,12 @@ use borrow.Author.Needs.{needs}
 use Rattle.locks.proofs.release.Statement.{statement}
 use Rattle.locks.proofs.release.Tie as tie
 
-lock-at-requires : tie.Need-lock-at-requires
-lock-at-requires c κs = search needs
-
 released-requires : tie.Need-released-requires
 released-requires c κs = rw (c .lock-at .ensures) (search needs)
 
-set-lock-requires : tie.Need-set-lock-requires
-set-lock-requires c κs = search needs
-
-same-length : tie.Need-same-length
-same-length c = search needs
-
 returns : tie.Need-returns
-returns c = cc
+returns c = rw (c .before .before .set-lock .ensures, c .before .before .before .released .ensures, c .before .before .before .before .lock-at .ensures)
 
 pub release-spec : {M : Type 1} → statement M
 release-spec =
-    tie.close (tie.spec lock-at-requires released-requires set-lock-requires same-length returns)
+    tie.close (tie.spec (λ c κs. search needs) released-requires (λ c κs. search needs) (λ c. search needs) returns)

@@ -5,68 +5,8 @@ use Rattle.locks.proofs.Turns.{back-counted, try-note, try-add, try-sta
 use Rattle.locks.proofs.try_lock.Statement.{statement}
 use Rattle.locks.proofs.try_lock.Tie as tie
 
-enum-told : tie.Need-enum-told
-enum-told c = search needs
-
-waits-requires : tie.Need-waits-requires
-waits-requires c κs = search needs
-
-enum-known-g : tie.Need-enum-known-g
-enum-known-g c = search needs
-
-add-with-count : tie.Need-add-with-count
-add-with-count c = search needs
-
-with-count-requires : tie.Need-with-count-requires
-with-count-requires c κs = search needs
-
-waits-requires-2 : tie.Need-waits-requires-2
-waits-requires-2 c κs = search needs
-
-waits-requires-3 : tie.Need-waits-requires-3
-waits-requires-3 c κs = search needs
-
-enum-told-2 : tie.Need-enum-told-2
-enum-told-2 c = search needs
-
-held-requires : tie.Need-held-requires
-held-requires c κs = search needs
-
-waits-requires-4 : tie.Need-waits-requires-4
-waits-requires-4 c κs = search needs
-
-enum-told-3 : tie.Need-enum-told-3
-enum-told-3 c = search needs
-
 sub-with-count : tie.Need-sub-with-count
 sub-with-count c = search back-counted
-
-with-count-requires-2 : tie.Need-with-count-requires-2
-with-count-requires-2 c κs = search needs
-
-waits-requires-5 : tie.Need-waits-requires-5
-waits-requires-5 c κs = search needs
-
-enum-told-4 : tie.Need-enum-told-4
-enum-told-4 c = search needs
-
-with-flag-requires : tie.Need-with-flag-requires
-with-flag-requires c κs = search needs
-
-waits-requires-6 : tie.Need-waits-requires-6
-waits-requires-6 c κs = search needs
-
-waits-requires-7 : tie.Need-waits-requires-7
-waits-requires-7 c κs = search needs
-
-enum-told-5 : tie.Need-enum-told-5
-enum-told-5 c = search needs
-
-held-requires-2 : tie.Need-held-requires-2
-held-requires-2 c κs = search needs
-
-waits-requires-8 : tie.Need-waits-requires-8
-waits-requires-8 c κs = search needs
 
 returns : tie.Need-returns
 returns c = search try-note
@@ -102,27 +42,27 @@ pub try-lock-spec : {M : Type 1} → statement M
 try-lock-spec =
     tie.close
     (tie.spec
-    enum-told
-    waits-requires
-    enum-known-g
-    add-with-count
-    with-count-requires
-    waits-requires-2
-    waits-requires-3
-    enum-told-2
-    held-requires
-    waits-requires-4
-    enum-told-3
+    (λ c. search needs)
+    (λ c κs. search needs)
+    (λ c. search needs)
+    (λ c. search needs)
+    (λ c κs. search needs)
+    (λ c κs. search needs)
+    (λ c κs. search needs)
+    (λ c. search needs)
+    (λ c κs. search needs)
+    (λ c κs. search needs)
+    (λ c. search needs)
     sub-with-count
-    with-count-requires-2
-    waits-requires-5
-    enum-told-4
-    with-flag-requires
-    waits-requires-6
-    waits-requires-7
-    enum-told-5
-    held-requires-2
-    waits-requires-8
+    (λ c κs. search needs)
+    (λ c κs. search needs)
+    (λ c. search needs)
+    (λ c κs. search needs)
+    (λ c κs. search needs)
+    (λ c κs. search needs)
+    (λ c. search needs)
+    (λ c κs. search needs)
+    (λ c κs. search needs)
     returns
     returns-2
     returns-3

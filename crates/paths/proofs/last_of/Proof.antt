@@ -5,15 +5,6 @@ use Rattle.paths.proofs.Turns.{last-of-none, last-of-some}
 use Rattle.paths.proofs.last_of.Statement.{statement}
 use Rattle.paths.proofs.last_of.Tie as tie
 
-no-place-requires : tie.Need-no-place-requires
-no-place-requires c κs = search needs
-
-sub-place-at : tie.Need-sub-place-at
-sub-place-at c = search needs
-
-place-at-requires : tie.Need-place-at-requires
-place-at-requires c κs = search needs
-
 returns : tie.Need-returns
 returns c = search last-of-none
 
@@ -22,4 +13,4 @@ returns-2 c = search last-of-some
 
 pub last-of-spec : {M : Type 1} → statement M
 last-of-spec =
-    tie.close (tie.spec no-place-requires sub-place-at place-at-requires returns returns-2)
+    tie.close (tie.spec (λ c κs. search needs) (λ c. search needs) (λ c κs. search needs) returns returns-2)

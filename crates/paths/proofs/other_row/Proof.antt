@@ -5,12 +5,6 @@ use Rattle.paths.proofs.Turns.{other-two, other-one}
 use Rattle.paths.proofs.other_row.Statement.{statement}
 use Rattle.paths.proofs.other_row.Tie as tie
 
-home-one-requires : tie.Need-home-one-requires
-home-one-requires c κs = search needs
-
-home-two-requires : tie.Need-home-two-requires
-home-two-requires c κs = search needs
-
 returns : tie.Need-returns
 returns c = search other-two
 
@@ -18,4 +12,4 @@ returns-2 : tie.Need-returns-2
 returns-2 c = search other-one
 
 pub other-row-spec : {M : Type 1} → statement M
-other-row-spec = tie.close (tie.spec home-one-requires home-two-requires returns returns-2)
+other-row-spec = tie.close (tie.spec (λ c κs. search needs) (λ c κs. search needs) returns returns-2)

@@ -5,15 +5,9 @@ use Rattle.prints.specs.Text.{letters}
 use Rattle.prints.proofs.key_character.Statement.{statement}
 use Rattle.prints.proofs.key_character.Tie as tie
 
-array-read-result : tie.Need-array-read-result
-array-read-result c = search needs
-
 returns : tie.Need-returns
 unfolding letters
 returns c = rw (c .if1 .taken)
 
-returns-2 : tie.Need-returns-2
-returns-2 c = search needs
-
 pub key-character-spec : {M : Type 1} → statement M
-key-character-spec = tie.close (tie.spec array-read-result returns returns-2)
+key-character-spec = tie.close (tie.spec (λ c. search needs) returns (λ c. search needs))

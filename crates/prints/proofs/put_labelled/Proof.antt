@@ -6,17 +6,11 @@ use Rattle.prints.proofs.Numbers.{decimal-most, labelled}
 use Rattle.prints.proofs.put_labelled.Statement.{statement}
 use Rattle.prints.proofs.put_labelled.Tie as tie
 
-put-text-requires : tie.Need-put-text-requires
-put-text-requires c κs = search needs
-
 put-number-requires : tie.Need-put-number-requires
 put-number-requires c κs = omega (arith, decimal-most (c .before .before .before .before .before .before .before .args .n))
-
-same-length : tie.Need-same-length
-same-length c = search needs
 
 returns : tie.Need-returns
 returns c = search labelled
 
 pub put-labelled-spec : {M : Type 1} → statement M
-put-labelled-spec = tie.close (tie.spec put-text-requires put-number-requires same-length returns)
+put-labelled-spec = tie.close (tie.spec (λ c κs. search needs) put-number-requires (λ c. search needs) returns)

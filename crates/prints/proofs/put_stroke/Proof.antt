@@ -1,5 +1,6 @@
 -- `put_stroke` puts the stroke: the characters so far and those of the bits that are left are the whole stroke.
 -- Assumes nothing.
+use mathlib.Core.Path.{refl}
 use lib.ListN.{drop}
 use Prim.Native.Nat.{_+_, _-_, _≤_}
 use native.Mathlib.Omega.{arith}
@@ -34,7 +35,7 @@ loop-less : tie.Need-loop-less Inv-loop μ-loop
 loop-less c = omega arith
 
 loop-again : tie.Need-loop-again Inv-loop μ-loop
-loop-again c = (omega arith, search stroke-more)
+loop-again c = (omega arith, stroke-more _ _ _ _ _ _ _ _ (omega arith) refl (c .key-character .ensures) (c .before .before .loop .inv .1))
 
 add-result : tie.Need-add-result Inv-loop μ-loop
 add-result c = omega arith

@@ -4,14 +4,8 @@ use borrow.Author.Needs.{needs}
 use Rattle.records.proofs.grab_words.Statement.{statement}
 use Rattle.records.proofs.grab_words.Tie as tie
 
-grab-code-requires : tie.Need-grab-code-requires
-grab-code-requires c κs = search needs
-
-grab-noted-requires : tie.Need-grab-noted-requires
-grab-noted-requires c κs = search needs
-
 returns : tie.Need-returns
-returns c = cc
+returns c = rw (c .grab-noted .ensures, c .before .grab-code .ensures)
 
 pub grab-words-spec : {M : Type 1} → statement M
-grab-words-spec = tie.close (tie.spec grab-code-requires grab-noted-requires returns)
+grab-words-spec = tie.close (tie.spec (λ c κs. search needs) (λ c κs. search needs) returns)

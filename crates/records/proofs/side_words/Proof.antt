@@ -4,14 +4,8 @@ use borrow.Author.Needs.{needs}
 use Rattle.records.proofs.side_words.Statement.{statement}
 use Rattle.records.proofs.side_words.Tie as tie
 
-side-code-requires : tie.Need-side-code-requires
-side-code-requires c κs = search needs
-
-plain-words-requires : tie.Need-plain-words-requires
-plain-words-requires c κs = search needs
-
 returns : tie.Need-returns
-returns c = cc
+returns c = rw (← c .before .side-code .ensures) (c .plain-words .ensures)
 
 pub side-words-spec : {M : Type 1} → statement M
-side-words-spec = tie.close (tie.spec side-code-requires plain-words-requires returns)
+side-words-spec = tie.close (tie.spec (λ c κs. search needs) (λ c κs. search needs) returns)

@@ -10,24 +10,6 @@ use Rattle.records.proofs.Coded.{past, by-code, withCode}
 use Rattle.records.proofs.stage_of.Statement.{statement}
 use Rattle.records.proofs.stage_of.Tie as tie
 
-grab-from-requires : tie.Need-grab-from-requires
-grab-from-requires c κs = search needs
-
-side-of-requires : tie.Need-side-of-requires
-side-of-requires c κs = search needs
-
-outcome-of-requires : tie.Need-outcome-of-requires
-outcome-of-requires c κs = search needs
-
-outcome-of-requires-2 : tie.Need-outcome-of-requires-2
-outcome-of-requires-2 c κs = search needs
-
-ending-of-requires : tie.Need-ending-of-requires
-ending-of-requires c κs = search needs
-
-found-of-requires : tie.Need-found-of-requires
-found-of-requires c κs = search needs
-
 returns : tie.Need-returns
 returns c = by-code (asWords (c .before .before .before .args .w)) 0 (c .match .keys1) refl
 
@@ -104,12 +86,12 @@ pub stage-of-spec : {M : Type 1} → statement M
 stage-of-spec =
     tie.close
     (tie.spec
-    grab-from-requires
-    side-of-requires
-    outcome-of-requires
-    outcome-of-requires-2
-    ending-of-requires
-    found-of-requires
+    (λ c κs. search needs)
+    (λ c κs. search needs)
+    (λ c κs. search needs)
+    (λ c κs. search needs)
+    (λ c κs. search needs)
+    (λ c κs. search needs)
     returns
     returns-2
     returns-3

@@ -4,14 +4,8 @@ use borrow.Author.Needs.{needs}
 use Rattle.rows.proofs.other_lock.Statement.{statement}
 use Rattle.rows.proofs.other_lock.Tie as tie
 
-other-row-requires : tie.Need-other-row-requires
-other-row-requires c κs = search needs
-
-lock-of-requires : tie.Need-lock-of-requires
-lock-of-requires c κs = search needs
-
 returns : tie.Need-returns
-returns c = cc
+returns c = rw (c .lock-of .ensures, c .before .other-row .ensures)
 
 pub other-lock-spec : {M : Type 1} → statement M
-other-lock-spec = tie.close (tie.spec other-row-requires lock-of-requires returns)
+other-lock-spec = tie.close (tie.spec (λ c κs. search needs) (λ c κs. search needs) returns)

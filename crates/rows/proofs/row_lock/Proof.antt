@@ -4,14 +4,8 @@ use borrow.Author.Needs.{needs}
 use Rattle.rows.proofs.row_lock.Statement.{statement}
 use Rattle.rows.proofs.row_lock.Tie as tie
 
-row-on-requires : tie.Need-row-on-requires
-row-on-requires c κs = search needs
-
-lock-of-requires : tie.Need-lock-of-requires
-lock-of-requires c κs = search needs
-
 returns : tie.Need-returns
-returns c = cc
+returns c = rw (c .lock-of .ensures, c .before .row-on .ensures)
 
 pub row-lock-spec : {M : Type 1} → statement M
-row-lock-spec = tie.close (tie.spec row-on-requires lock-of-requires returns)
+row-lock-spec = tie.close (tie.spec (λ c κs. search needs) (λ c κs. search needs) returns)

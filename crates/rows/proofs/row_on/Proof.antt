@@ -5,15 +5,6 @@ use Rattle.rows.proofs.Rowing.{row-first, row-second}
 use Rattle.rows.proofs.row_on.Statement.{statement}
 use Rattle.rows.proofs.row_on.Tie as tie
 
-rows-of-requires : tie.Need-rows-of-requires
-rows-of-requires c κs = search needs
-
-enum-told : tie.Need-enum-told
-enum-told c = search needs
-
-enum-told-2 : tie.Need-enum-told-2
-enum-told-2 c = search needs
-
 returns : tie.Need-returns
 returns c = search row-first
 
@@ -21,4 +12,4 @@ returns-2 : tie.Need-returns-2
 returns-2 c = search row-second
 
 pub row-on-spec : {M : Type 1} → statement M
-row-on-spec = tie.close (tie.spec rows-of-requires enum-told enum-told-2 returns returns-2)
+row-on-spec = tie.close (tie.spec (λ c κs. search needs) (λ c. search needs) (λ c. search needs) returns returns-2)

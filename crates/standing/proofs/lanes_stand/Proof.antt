@@ -7,7 +7,7 @@ use native.Mathlib.Omega.{arith}
 use borrow.Author.Needs.{needs}
 use Rattle.lists.specs.Below.{allBelow}
 use Rattle.machine.specs.Standing.{laneStands}
-use Rattle.standing.specs.Tables.{lanesTable}
+use Rattle.standing.specs.Partial.{lanesTable}
 use Rattle.standing.proofs.Turns.{all-stop, all-pass, all-end}
 use Rattle.standing.proofs.lanes_stand.Statement.{statement}
 use Rattle.standing.proofs.lanes_stand.Tie as tie

@@ -7,7 +7,7 @@ use native.Mathlib.Omega.{arith}
 use borrow.Author.Needs.{needs}
 use Rattle.lists.specs.Below.{allBelow}
 use Rattle.machine.specs.Standing.{lockStands}
-use Rattle.standing.specs.Tables.{locksTable}
+use Rattle.standing.specs.Partial.{locksTable}
 use Rattle.standing.proofs.Turns.{all-stop, all-pass, all-end}
 use Rattle.standing.proofs.locks_stand.Statement.{statement}
 use Rattle.standing.proofs.locks_stand.Tie as tie

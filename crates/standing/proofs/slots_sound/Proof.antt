@@ -5,21 +5,6 @@ use Rattle.standing.proofs.Whole.{found-sound, found-misshapen, found-a
 use Rattle.standing.proofs.slots_sound.Statement.{statement}
 use Rattle.standing.proofs.slots_sound.Tie as tie
 
-check-requires : tie.Need-check-requires
-check-requires c κs = search needs
-
-enum-told : tie.Need-enum-told
-enum-told c = search needs
-
-enum-told-2 : tie.Need-enum-told-2
-enum-told-2 c = search needs
-
-enum-told-3 : tie.Need-enum-told-3
-enum-told-3 c = search needs
-
-enum-told-4 : tie.Need-enum-told-4
-enum-told-4 c = search needs
-
 returns : tie.Need-returns
 returns c = search found-sound
 
@@ -36,11 +21,11 @@ pub slots-sound-spec : {M : Type 1} → statement M
 slots-sound-spec =
     tie.close
     (tie.spec
-    check-requires
-    enum-told
-    enum-told-2
-    enum-told-3
-    enum-told-4
+    (λ c κs. search needs)
+    (λ c. search needs)
+    (λ c. search needs)
+    (λ c. search needs)
+    (λ c. search needs)
     returns
     returns-2
     returns-3

@@ -5,23 +5,11 @@ use Rattle.standing.proofs.Whole.{whole-unsound, whole-lanes, whole-sta
 use Rattle.standing.proofs.stands.Statement.{statement}
 use Rattle.standing.proofs.stands.Tie as tie
 
-slots-sound-requires : tie.Need-slots-sound-requires
-slots-sound-requires c κs = search needs
-
 returns : tie.Need-returns
 returns c = search whole-unsound
 
-lanes-stand-requires : tie.Need-lanes-stand-requires
-lanes-stand-requires c κs = search needs
-
 returns-2 : tie.Need-returns-2
 returns-2 c = search whole-lanes
-
-path-stands-requires : tie.Need-path-stands-requires
-path-stands-requires c κs = search needs
-
-locks-stand-requires : tie.Need-locks-stand-requires
-locks-stand-requires c κs = search needs
 
 returns-3 : tie.Need-returns-3
 returns-3 c = search whole-stands
@@ -30,10 +18,10 @@ pub stands-spec : {M : Type 1} → statement M
 stands-spec =
     tie.close
     (tie.spec
-    slots-sound-requires
+    (λ c κs. search needs)
     returns
-    lanes-stand-requires
+    (λ c κs. search needs)
     returns-2
-    path-stands-requires
-    locks-stand-requires
+    (λ c κs. search needs)
+    (λ c κs. search needs)
     returns-3)

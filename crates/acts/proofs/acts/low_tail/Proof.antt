@@ -5,12 +5,6 @@ use Rattle.rows.proofs.Choices.{one-lock, two-locks}
 use Rattle.acts.proofs.acts.low_tail.Statement.{statement}
 use Rattle.acts.proofs.acts.low_tail.Tie as tie
 
-swing-rows-requires : tie.Need-swing-rows-requires
-swing-rows-requires c κs = search needs
-
-sub-t7 : tie.Need-sub-t7
-sub-t7 c = search needs
-
 returns : tie.Need-returns
 returns c = search one-lock
 
@@ -18,4 +12,4 @@ returns-2 : tie.Need-returns-2
 returns-2 c = search two-locks
 
 pub low-tail-spec : {M : Type 1} → statement M
-low-tail-spec = tie.close (tie.spec swing-rows-requires sub-t7 returns returns-2)
+low-tail-spec = tie.close (tie.spec (λ c κs. search needs) (λ c. search needs) returns returns-2)

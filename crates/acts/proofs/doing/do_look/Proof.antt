@@ -5,9 +5,6 @@ use Rattle.acts.proofs.Performing.{slot-within}
 use Rattle.acts.proofs.doing.do_look.Statement.{statement}
 use Rattle.acts.proofs.doing.do_look.Tie as tie
 
-slot-index-requires : tie.Need-slot-index-requires
-slot-index-requires c κs = search needs
-
 slot-at-requires : tie.Need-slot-at-requires
 slot-at-requires c κs = search slot-within
 
@@ -15,4 +12,4 @@ returns : tie.Need-returns
 returns c = cc
 
 pub do-look-spec : {M : Type 1} → statement M
-do-look-spec = tie.close (tie.spec slot-index-requires slot-at-requires returns)
+do-look-spec = tie.close (tie.spec (λ c κs. search needs) slot-at-requires returns)

@@ -5,17 +5,8 @@ use Rattle.acts.proofs.Performing.{column-in}
 use Rattle.acts.proofs.doing.do_pick_from.Statement.{statement}
 use Rattle.acts.proofs.doing.do_pick_from.Tie as tie
 
-rem-pick : tie.Need-rem-pick
-rem-pick c = search needs
-
 pick-requires : tie.Need-pick-requires
 pick-requires c κs = (search needs, (search needs, (search column-in, (search needs, search needs))))
 
-same-length : tie.Need-same-length
-same-length c = search needs
-
-returns : tie.Need-returns
-returns c = search needs
-
 pub do-pick-from-spec : {M : Type 1} → statement M
-do-pick-from-spec = tie.close (tie.spec rem-pick pick-requires same-length returns)
+do-pick-from-spec = tie.close (tie.spec (λ c. search needs) pick-requires (λ c. search needs) (λ c. search needs))

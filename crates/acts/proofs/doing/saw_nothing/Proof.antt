@@ -4,11 +4,8 @@ use borrow.Author.Needs.{needs}
 use Rattle.acts.proofs.doing.saw_nothing.Statement.{statement}
 use Rattle.acts.proofs.doing.saw_nothing.Tie as tie
 
-empty-slot-requires : tie.Need-empty-slot-requires
-empty-slot-requires c κs = search needs
-
 returns : tie.Need-returns
 returns c = cc
 
 pub saw-nothing-spec : {M : Type 1} → statement M
-saw-nothing-spec = tie.close (tie.spec empty-slot-requires returns)
+saw-nothing-spec = tie.close (tie.spec (λ c κs. search needs) returns)

@@ -6,17 +6,11 @@ use Rattle.desk.proofs.Starts.{starts-badly, starts-short, starts-falle
 use Rattle.desk.proofs.starting.start.Statement.{statement}
 use Rattle.desk.proofs.starting.start.Tie as tie
 
-sizes-ok-requires : tie.Need-sizes-ok-requires
-sizes-ok-requires c κs = search needs
-
 returns : tie.Need-returns
 returns c = search starts-badly
 
 lengths-ok-requires : tie.Need-lengths-ok-requires
 lengths-ok-requires c κs = search tests-fit
-
-same-length : tie.Need-same-length
-same-length c = search needs
 
 returns-2 : tie.Need-returns-2
 returns-2 c = search starts-short
@@ -24,33 +18,24 @@ returns-2 c = search starts-short
 stands-requires : tie.Need-stands-requires
 stands-requires c κs = (search tests-fit, lists-long _ _ _ _ _ _ (c .before .before .lengths-ok .ensures) (c .before .if2 .left))
 
-same-length-2 : tie.Need-same-length-2
-same-length-2 c = search needs
-
 returns-3 : tie.Need-returns-3
 returns-3 c = search starts-fallen
 
 start-standing-requires : tie.Need-start-standing-requires
 start-standing-requires c κs = tests-stood _ _ _ _ _ _ _ _ (c .before .before .before .before .before .before .before .before .sizes-ok .ensures) (c .before .before .before .before .before .before .before .if1 .left) (c .before .before .before .before .before .lengths-ok .ensures) (c .before .before .before .before .if2 .left) (c .before .before .stands .ensures) (c .before .if3 .left)
 
-same-length-3 : tie.Need-same-length-3
-same-length-3 c = search needs
-
-returns-4 : tie.Need-returns-4
-returns-4 c = search needs
-
 pub start-spec : {M : Type 1} → statement M
 start-spec =
     tie.close
     (tie.spec
-    sizes-ok-requires
+    (λ c κs. search needs)
     returns
     lengths-ok-requires
-    same-length
+    (λ c. search needs)
     returns-2
     stands-requires
-    same-length-2
+    (λ c. search needs)
     returns-3
     start-standing-requires
-    same-length-3
-    returns-4)
+    (λ c. search needs)
+    (λ c. search needs))

@@ -12,32 +12,14 @@ returns c = search starts-nowhere
 lane-at-requires : tie.Need-lane-at-requires
 lane-at-requires c κs = lane-long _ _ _ _ _ _ (c .before .before .before .before .before .before .before .pre) (c .before .if1 .left)
 
-is-idle-requires : tie.Need-is-idle-requires
-is-idle-requires c κs = search needs
-
-same-length : tie.Need-same-length
-same-length c = search needs
-
 returns-2 : tie.Need-returns-2
 returns-2 c = search starts-busy
-
-key-of-requires : tie.Need-key-of-requires
-key-of-requires c κs = search needs
-
-same-length-2 : tie.Need-same-length-2
-same-length-2 c = search needs
 
 returns-3 : tie.Need-returns-3
 returns-3 c = search starts-astray
 
-begun-requires : tie.Need-begun-requires
-begun-requires c κs = search needs
-
 set-lane-requires : tie.Need-set-lane-requires
 set-lane-requires c κs = lane-long _ _ _ _ _ _ (c .before .before .before .before .before .before .before .before .before .before .before .before .before .before .pre) (c .before .before .before .before .before .before .before .before .if1 .left)
-
-same-length-3 : tie.Need-same-length-3
-same-length-3 c = search needs
 
 returns-4 : tie.Need-returns-4
 returns-4 c = search starts-lane
@@ -48,13 +30,13 @@ start-standing-spec =
     (tie.spec
     returns
     lane-at-requires
-    is-idle-requires
-    same-length
+    (λ c κs. search needs)
+    (λ c. search needs)
     returns-2
-    key-of-requires
-    same-length-2
+    (λ c κs. search needs)
+    (λ c. search needs)
     returns-3
-    begun-requires
+    (λ c κs. search needs)
     set-lane-requires
-    same-length-3
+    (λ c. search needs)
     returns-4)

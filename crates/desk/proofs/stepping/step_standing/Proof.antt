@@ -12,12 +12,6 @@ returns c = search steps-nowhere
 lane-at-requires : tie.Need-lane-at-requires
 lane-at-requires c κs = lane-long _ _ _ _ _ _ (c .before .before .before .before .before .before .before .pre) (c .before .if1 .left)
 
-is-idle-requires : tie.Need-is-idle-requires
-is-idle-requires c κs = search needs
-
-same-length : tie.Need-same-length
-same-length c = search needs
-
 returns-2 : tie.Need-returns-2
 returns-2 c = search steps-idle
 
@@ -26,18 +20,6 @@ step-lane-requires c κs = search step-fits
 
 set-lane-requires : tie.Need-set-lane-requires
 set-lane-requires c κs = lane-long _ _ _ _ _ _ (c .before .before .before .before .before .before .before .before .before .before .before .before .before .before .before .before .before .before .before .before .before .before .pre) (c .before .before .before .before .before .before .before .before .before .before .before .before .before .before .before .before .if1 .left)
-
-same-length-2 : tie.Need-same-length-2
-same-length-2 c = search needs
-
-same-length-3 : tie.Need-same-length-3
-same-length-3 c = search needs
-
-same-length-4 : tie.Need-same-length-4
-same-length-4 c = search needs
-
-same-length-5 : tie.Need-same-length-5
-same-length-5 c = search needs
 
 returns-3 : tie.Need-returns-3
 returns-3 c = search steps-lane
@@ -48,13 +30,13 @@ step-standing-spec =
     (tie.spec
     returns
     lane-at-requires
-    is-idle-requires
-    same-length
+    (λ c κs. search needs)
+    (λ c. search needs)
     returns-2
     step-lane-requires
     set-lane-requires
-    same-length-2
-    same-length-3
-    same-length-4
-    same-length-5
+    (λ c. search needs)
+    (λ c. search needs)
+    (λ c. search needs)
+    (λ c. search needs)
     returns-3)

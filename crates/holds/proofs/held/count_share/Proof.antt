@@ -1,31 +1,22 @@
 -- `count_share` is its definition: from those of what it calls; a part adds at most 1.
 -- Assumes nothing.
 use borrow.Author.Needs.{needs}
-use Rattle.holds.proofs.Tested.{count-low}
+use Rattle.holds.proofs.Low.{count-low}
 use Rattle.holds.proofs.held.count_share.Statement.{statement}
 use Rattle.holds.proofs.held.count_share.Tie as tie
-
-part-count-requires : tie.Need-part-count-requires
-part-count-requires c κs = search needs
-
-part-count-requires-2 : tie.Need-part-count-requires-2
-part-count-requires-2 c κs = search needs
-
-part-count-requires-3 : tie.Need-part-count-requires-3
-part-count-requires-3 c κs = search needs
 
 total-requires : tie.Need-total-requires
 total-requires c κs = (count-low (c .before .before .before .before .before .args .g .main) _ (c .before .before .part-count .ensures), (count-low (c .before .before .before .before .before .args .g .one .part) _ (c .before .part-count2 .ensures), count-low (c .before .before .before .before .before .args .g .two .part) _ (c .part-count3 .ensures)))
 
 returns : tie.Need-returns
-returns c = cc
+returns c = rw (c .total .ensures, c .before .part-count3 .ensures, c .before .before .part-count2 .ensures, c .before .before .before .part-count .ensures)
 
 pub count-share-spec : {M : Type 1} → statement M
 count-share-spec =
     tie.close
     (tie.spec
-    part-count-requires
-    part-count-requires-2
-    part-count-requires-3
+    (λ c κs. search needs)
+    (λ c κs. search needs)
+    (λ c κs. search needs)
     total-requires
     returns)

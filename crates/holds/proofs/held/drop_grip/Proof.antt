@@ -5,21 +5,6 @@ use Rattle.holds.proofs.Holding.{drops-second, drops-first}
 use Rattle.holds.proofs.held.drop_grip.Statement.{statement}
 use Rattle.holds.proofs.held.drop_grip.Tie as tie
 
-rows-of-requires : tie.Need-rows-of-requires
-rows-of-requires c κs = search needs
-
-drops-two-requires : tie.Need-drops-two-requires
-drops-two-requires c κs = search needs
-
-mode-of-requires : tie.Need-mode-of-requires
-mode-of-requires c κs = search needs
-
-first-grip-requires : tie.Need-first-grip-requires
-first-grip-requires c κs = search needs
-
-first-grip-requires-2 : tie.Need-first-grip-requires-2
-first-grip-requires-2 c κs = search needs
-
 returns : tie.Need-returns
 returns c = search drops-second
 
@@ -30,10 +15,10 @@ pub drop-grip-spec : {M : Type 1} → statement M
 drop-grip-spec =
     tie.close
     (tie.spec
-    rows-of-requires
-    drops-two-requires
-    mode-of-requires
-    first-grip-requires
-    first-grip-requires-2
+    (λ c κs. search needs)
+    (λ c κs. search needs)
+    (λ c κs. search needs)
+    (λ c κs. search needs)
+    (λ c κs. search needs)
     returns
     returns-2)

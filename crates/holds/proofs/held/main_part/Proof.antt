@@ -5,47 +5,17 @@ use Rattle.holds.proofs.Holding.{main-by}
 use Rattle.holds.proofs.held.main_part.Statement.{statement}
 use Rattle.holds.proofs.held.main_part.Tie as tie
 
-enum-told : tie.Need-enum-told
-enum-told c = search needs
-
-enum-told-2 : tie.Need-enum-told-2
-enum-told-2 c = search needs
-
-enum-told-3 : tie.Need-enum-told-3
-enum-told-3 c = search needs
-
-enum-told-4 : tie.Need-enum-told-4
-enum-told-4 c = search needs
-
-enum-told-5 : tie.Need-enum-told-5
-enum-told-5 c = search needs
-
-returns : tie.Need-returns
-returns c = search main-by
-
-returns-2 : tie.Need-returns-2
-returns-2 c = search main-by
-
-returns-3 : tie.Need-returns-3
-returns-3 c = search main-by
-
-returns-4 : tie.Need-returns-4
-returns-4 c = search main-by
-
-returns-5 : tie.Need-returns-5
-returns-5 c = search main-by
-
 pub main-part-spec : {M : Type 1} → statement M
 main-part-spec =
     tie.close
     (tie.spec
-    enum-told
-    enum-told-2
-    enum-told-3
-    enum-told-4
-    enum-told-5
-    returns
-    returns-2
-    returns-3
-    returns-4
-    returns-5)
+    (λ c. search needs)
+    (λ c. search needs)
+    (λ c. search needs)
+    (λ c. search needs)
+    (λ c. search needs)
+    (λ c. search main-by)
+    (λ c. search main-by)
+    (λ c. search main-by)
+    (λ c. search main-by)
+    (λ c. search main-by))

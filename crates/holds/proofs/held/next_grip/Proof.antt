@@ -4,14 +4,8 @@ use borrow.Author.Needs.{needs}
 use Rattle.holds.proofs.held.next_grip.Statement.{statement}
 use Rattle.holds.proofs.held.next_grip.Tie as tie
 
-other-row-requires : tie.Need-other-row-requires
-other-row-requires c κs = search needs
-
-search-grip-requires : tie.Need-search-grip-requires
-search-grip-requires c κs = search needs
-
 returns : tie.Need-returns
-returns c = cc
+returns c = rw (c .search-grip .ensures, c .before .other-row .ensures)
 
 pub next-grip-spec : {M : Type 1} → statement M
-next-grip-spec = tie.close (tie.spec other-row-requires search-grip-requires returns)
+next-grip-spec = tie.close (tie.spec (λ c κs. search needs) (λ c κs. search needs) returns)

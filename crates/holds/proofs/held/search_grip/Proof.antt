@@ -4,14 +4,8 @@ use borrow.Author.Needs.{needs}
 use Rattle.holds.proofs.held.search_grip.Statement.{statement}
 use Rattle.holds.proofs.held.search_grip.Tie as tie
 
-lock-of-requires : tie.Need-lock-of-requires
-lock-of-requires c κs = search needs
-
-grip-requires : tie.Need-grip-requires
-grip-requires c κs = search needs
-
 returns : tie.Need-returns
-returns c = cc
+returns c = rw (c .grip .ensures, c .before .lock-of .ensures)
 
 pub search-grip-spec : {M : Type 1} → statement M
-search-grip-spec = tie.close (tie.spec lock-of-requires grip-requires returns)
+search-grip-spec = tie.close (tie.spec (λ c κs. search needs) (λ c κs. search needs) returns)

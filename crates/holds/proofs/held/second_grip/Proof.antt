@@ -4,14 +4,8 @@ use borrow.Author.Needs.{needs}
 use Rattle.holds.proofs.held.second_grip.Statement.{statement}
 use Rattle.holds.proofs.held.second_grip.Tie as tie
 
-mode-of-requires : tie.Need-mode-of-requires
-mode-of-requires c κs = search needs
-
-pass-grip-requires : tie.Need-pass-grip-requires
-pass-grip-requires c κs = search needs
-
 returns : tie.Need-returns
-returns c = cc
+returns c = rw (c .pass-grip .ensures, c .before .mode-of .ensures)
 
 pub second-grip-spec : {M : Type 1} → statement M
-second-grip-spec = tie.close (tie.spec mode-of-requires pass-grip-requires returns)
+second-grip-spec = tie.close (tie.spec (λ c κs. search needs) (λ c κs. search needs) returns)

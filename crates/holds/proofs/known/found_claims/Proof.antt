@@ -5,21 +5,6 @@ use Rattle.holds.proofs.Holding.{found-room, by-found}
 use Rattle.holds.proofs.known.found_claims.Statement.{statement}
 use Rattle.holds.proofs.known.found_claims.Tie as tie
 
-other-row-requires : tie.Need-other-row-requires
-other-row-requires c κs = search needs
-
-enum-known-found : tie.Need-enum-known-found
-enum-known-found c = search needs
-
-search-claims-requires : tie.Need-search-claims-requires
-search-claims-requires c κs = search needs
-
-enum-told : tie.Need-enum-told
-enum-told c = search needs
-
-search-claims-requires-2 : tie.Need-search-claims-requires-2
-search-claims-requires-2 c κs = search needs
-
 returns : tie.Need-returns
 returns c = search found-room
 
@@ -30,10 +15,10 @@ pub found-claims-spec : {M : Type 1} → statement M
 found-claims-spec =
     tie.close
     (tie.spec
-    other-row-requires
-    enum-known-found
-    search-claims-requires
-    enum-told
-    search-claims-requires-2
+    (λ c κs. search needs)
+    (λ c. search needs)
+    (λ c κs. search needs)
+    (λ c. search needs)
+    (λ c κs. search needs)
     returns
     returns-2)

@@ -4,14 +4,8 @@ use borrow.Author.Needs.{needs}
 use Rattle.holds.proofs.known.next_claims.Statement.{statement}
 use Rattle.holds.proofs.known.next_claims.Tie as tie
 
-other-row-requires : tie.Need-other-row-requires
-other-row-requires c κs = search needs
-
-search-claims-requires : tie.Need-search-claims-requires
-search-claims-requires c κs = search needs
-
 returns : tie.Need-returns
-returns c = cc
+returns c = rw (c .search-claims .ensures, c .before .other-row .ensures)
 
 pub next-claims-spec : {M : Type 1} → statement M
-next-claims-spec = tie.close (tie.spec other-row-requires search-claims-requires returns)
+next-claims-spec = tie.close (tie.spec (λ c κs. search needs) (λ c κs. search needs) returns)

@@ -5,11 +5,8 @@ use Rattle.holds.proofs.Holding.{pass-rows}
 use Rattle.holds.proofs.known.pass_claims.Statement.{statement}
 use Rattle.holds.proofs.known.pass_claims.Tie as tie
 
-rows-of-requires : tie.Need-rows-of-requires
-rows-of-requires c κs = search needs
-
 returns : tie.Need-returns
 returns c = search pass-rows
 
 pub pass-claims-spec : {M : Type 1} → statement M
-pass-claims-spec = tie.close (tie.spec rows-of-requires returns)
+pass-claims-spec = tie.close (tie.spec (λ c κs. search needs) returns)

@@ -5,14 +5,8 @@ use Rattle.standing.proofs.Whole.{row-whole}
 use Rattle.standing.proofs.claims.row_stands.Statement.{statement}
 use Rattle.standing.proofs.claims.row_stands.Tie as tie
 
-row-lacks-requires : tie.Need-row-lacks-requires
-row-lacks-requires c κs = search needs
-
-row-full-requires : tie.Need-row-full-requires
-row-full-requires c κs = search needs
-
 returns : tie.Need-returns
 returns c = search row-whole
 
 pub row-stands-spec : {M : Type 1} → statement M
-row-stands-spec = tie.close (tie.spec row-lacks-requires row-full-requires returns)
+row-stands-spec = tie.close (tie.spec (λ c κs. search needs) (λ c κs. search needs) returns)

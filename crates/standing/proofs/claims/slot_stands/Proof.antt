@@ -5,36 +5,6 @@ use Rattle.standing.proofs.Whole.{claim-none, claim-key, claim-pair, cl
 use Rattle.standing.proofs.claims.slot_stands.Statement.{statement}
 use Rattle.standing.proofs.claims.slot_stands.Tie as tie
 
-enum-told : tie.Need-enum-told
-enum-told c = search needs
-
-enum-known-c : tie.Need-enum-known-c
-enum-known-c c = search needs
-
-slot-of-requires : tie.Need-slot-of-requires
-slot-of-requires c κs = search needs
-
-holds-key-requires : tie.Need-holds-key-requires
-holds-key-requires c κs = search needs
-
-enum-known-c-2 : tie.Need-enum-known-c-2
-enum-known-c-2 c = search needs
-
-slot-of-requires-2 : tie.Need-slot-of-requires-2
-slot-of-requires-2 c κs = search needs
-
-holds-key-requires-2 : tie.Need-holds-key-requires-2
-holds-key-requires-2 c κs = search needs
-
-enum-known-c-3 : tie.Need-enum-known-c-3
-enum-known-c-3 c = search needs
-
-slot-of-requires-3 : tie.Need-slot-of-requires-3
-slot-of-requires-3 c κs = search needs
-
-is-empty-requires : tie.Need-is-empty-requires
-is-empty-requires c κs = search needs
-
 returns : tie.Need-returns
 returns c = search claim-none
 
@@ -51,16 +21,16 @@ pub slot-stands-spec : {M : Type 1} → statement M
 slot-stands-spec =
     tie.close
     (tie.spec
-    enum-told
-    enum-known-c
-    slot-of-requires
-    holds-key-requires
-    enum-known-c-2
-    slot-of-requires-2
-    holds-key-requires-2
-    enum-known-c-3
-    slot-of-requires-3
-    is-empty-requires
+    (λ c. search needs)
+    (λ c. search needs)
+    (λ c κs. search needs)
+    (λ c κs. search needs)
+    (λ c. search needs)
+    (λ c κs. search needs)
+    (λ c κs. search needs)
+    (λ c. search needs)
+    (λ c κs. search needs)
+    (λ c κs. search needs)
     returns
     returns-2
     returns-3

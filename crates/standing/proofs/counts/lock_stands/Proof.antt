@@ -5,14 +5,8 @@ use Rattle.standing.proofs.Shared.{lock-tested}
 use Rattle.standing.proofs.counts.lock_stands.Statement.{statement}
 use Rattle.standing.proofs.counts.lock_stands.Tie as tie
 
-lock-at-requires : tie.Need-lock-at-requires
-lock-at-requires c κs = search needs
-
-all-shares-requires : tie.Need-all-shares-requires
-all-shares-requires c κs = search needs
-
 returns : tie.Need-returns
 returns c = search lock-tested
 
 pub lock-stands-spec : {M : Type 1} → statement M
-lock-stands-spec = tie.close (tie.spec lock-at-requires all-shares-requires returns)
+lock-stands-spec = tie.close (tie.spec (λ c κs. search needs) (λ c κs. search needs) returns)

@@ -7,20 +7,11 @@ use Rattle.standing.proofs.Beyond.{index-fits, slot-past}
 use Rattle.standing.proofs.reads.slot_of.Statement.{statement}
 use Rattle.standing.proofs.reads.slot_of.Tie as tie
 
-cast-i : tie.Need-cast-i
-cast-i c = search needs
-
 mul-i : tie.Need-mul-i
 mul-i c = omega (arith, index-fits (c .before .before .args .row) _ (c .before .before .pre .0 .columnsHigh))
 
 add-i : tie.Need-add-i
 add-i c = omega (arith, index-fits (c .before .before .args .row) _ (c .before .before .pre .0 .columnsHigh))
-
-slot-count-requires : tie.Need-slot-count-requires
-slot-count-requires c κs = search needs
-
-slot-at-requires : tie.Need-slot-at-requires
-slot-at-requires c κs = search needs
 
 returns : tie.Need-returns
 unfolding slotIndex
@@ -31,4 +22,4 @@ returns-2 c = search slot-past
 
 pub slot-of-spec : {M : Type 1} → statement M
 slot-of-spec =
-    tie.close (tie.spec cast-i mul-i add-i slot-count-requires slot-at-requires returns returns-2)
+    tie.close (tie.spec (λ c. search needs) mul-i add-i (λ c κs. search needs) (λ c κs. search needs) returns returns-2)

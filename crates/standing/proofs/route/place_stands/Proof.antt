@@ -6,15 +6,9 @@ use Rattle.machine.specs.Standing.{placeStands}
 use Rattle.standing.proofs.route.place_stands.Statement.{statement}
 use Rattle.standing.proofs.route.place_stands.Tie as tie
 
-home-one-requires : tie.Need-home-one-requires
-home-one-requires c κs = search needs
-
-home-two-requires : tie.Need-home-two-requires
-home-two-requires c κs = search needs
-
 returns : tie.Need-returns
 unfolding placeStands
-returns c = simp and-true (cc)
+returns c = rw (c .before .home-two .ensures, c .before .before .before .home-one .ensures, and-true)
 
 pub place-stands-spec : {M : Type 1} → statement M
-place-stands-spec = tie.close (tie.spec home-one-requires home-two-requires returns)
+place-stands-spec = tie.close (tie.spec (λ c κs. search needs) (λ c κs. search needs) returns)

@@ -5,11 +5,8 @@ use Rattle.standing.proofs.Whole.{unused-whole}
 use Rattle.standing.proofs.route.unused.Statement.{statement}
 use Rattle.standing.proofs.route.unused.Tie as tie
 
-place-of-requires : tie.Need-place-of-requires
-place-of-requires c κs = search needs
-
 returns : tie.Need-returns
 returns c = search unused-whole
 
 pub unused-spec : {M : Type 1} → statement M
-unused-spec = tie.close (tie.spec place-of-requires returns)
+unused-spec = tie.close (tie.spec (λ c κs. search needs) returns)

@@ -1,0 +1,37 @@
+-- `leave` is its definition, by the outcome.
+-- Assumes nothing.
+use borrow.Author.Needs.{needs}
+use Rattle.moves.proofs.Ways.{leave-at, goes-on, ends-on}
+use Rattle.moves.proofs.going.leave.Statement.{statement}
+use Rattle.moves.proofs.going.leave.Tie as tie
+
+returns-4 : tie.Need-returns-4
+returns-4 c = search (leave-at, ends-on)
+
+returns-5 : tie.Need-returns-5
+returns-5 c = search (leave-at, goes-on)
+
+pub leave-spec : {M : Type 1} → statement M
+leave-spec =
+    tie.close
+    (tie.spec
+    (λ c. search needs)
+    (λ c κs. search needs)
+    (λ c. search needs)
+    (λ c κs. search needs)
+    (λ c. search needs)
+    (λ c κs. search needs)
+    (λ c. search needs)
+    (λ c κs. search needs)
+    (λ c κs. search needs)
+    (λ c. search needs)
+    (λ c κs. search needs)
+    (λ c κs. search needs)
+    (λ c. search needs)
+    (λ c κs. search needs)
+    (λ c. search leave-at)
+    (λ c. search leave-at)
+    (λ c. search leave-at)
+    returns-4
+    returns-5
+    (λ c. search leave-at))

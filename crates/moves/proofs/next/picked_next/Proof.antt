@@ -1,0 +1,8 @@
+-- `picked_next` is its definition: the pick and its place are counted.
+-- Assumes nothing.
+use borrow.Author.Needs.{needs}
+use Rattle.moves.proofs.next.picked_next.Statement.{statement}
+use Rattle.moves.proofs.next.picked_next.Tie as tie
+
+pub picked-next-spec : {M : Type 1} → statement M
+picked-next-spec = tie.close (tie.spec (λ c. search needs) (λ c. search needs) (λ c. search needs))

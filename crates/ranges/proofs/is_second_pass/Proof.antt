@@ -1,0 +1,11 @@
+-- `is_second_pass` is its definition: a test of the code of the operation.
+-- Assumes nothing.
+use borrow.Author.Needs.{needs}
+use Rattle.ranges.proofs.is_second_pass.Statement.{statement}
+use Rattle.ranges.proofs.is_second_pass.Tie as tie
+
+returns : tie.Need-returns
+returns c = rw (c .op-code .ensures)
+
+pub is-second-pass-spec : {M : Type 1} → statement M
+is-second-pass-spec = tie.close (tie.spec (λ c κs. search needs) returns)
