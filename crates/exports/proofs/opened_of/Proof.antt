@@ -16,6 +16,24 @@ cast-t7 c = let low : c .before .o2 .given .0 .0 ≤ 512 = search astray-low in 
 cast-t8 : tie.Need-cast-t8
 cast-t8 c = let low : c .before .o3 .given .0 .0 ≤ 512 = search twice-low in omega arith
 
+returns : tie.Need-returns
+returns c = search by-opened
+
+returns-2 : tie.Need-returns-2
+returns-2 c = search by-opened
+
+returns-3 : tie.Need-returns-3
+returns-3 c = search by-opened
+
+returns-4 : tie.Need-returns-4
+returns-4 c = search by-opened
+
+returns-5 : tie.Need-returns-5
+returns-5 c = search by-opened
+
+returns-6 : tie.Need-returns-6
+returns-6 c = search by-opened
+
 pub opened-of-spec : {M : Type 1} → statement M
 opened-of-spec =
     tie.close
@@ -29,9 +47,9 @@ opened-of-spec =
     cast-t7
     (λ c. search needs)
     cast-t8
-    (λ c. search by-opened)
-    (λ c. search by-opened)
-    (λ c. search by-opened)
-    (λ c. search by-opened)
-    (λ c. search by-opened)
-    (λ c. search by-opened))
+    returns
+    returns-2
+    returns-3
+    returns-4
+    returns-5
+    returns-6)

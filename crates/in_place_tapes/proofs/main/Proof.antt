@@ -10,6 +10,9 @@ insert-alone-requires : tie.Need-insert-alone-requires
 unfolding afterSteps
 insert-alone-requires c κs = record { slots = refl; locks = refl; path = refl; lane = refl }
 
+returns : tie.Need-returns
+returns c = search needs
+
 pub main-spec : {M : Type 1} → statement M
 main-spec =
     tie.close
@@ -20,4 +23,4 @@ main-spec =
     insert-alone-requires
     (λ c. search needs)
     (λ c κs. search needs)
-    (λ c. search needs))
+    returns)

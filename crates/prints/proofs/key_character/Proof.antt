@@ -9,5 +9,8 @@ returns : tie.Need-returns
 unfolding letters
 returns c = rw (c .if1 .taken)
 
+returns-2 : tie.Need-returns-2
+returns-2 c = search needs
+
 pub key-character-spec : {M : Type 1} → statement M
-key-character-spec = tie.close (tie.spec (λ c. search needs) returns (λ c. search needs))
+key-character-spec = tie.close (tie.spec (λ c. search needs) returns returns-2)

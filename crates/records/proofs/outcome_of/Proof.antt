@@ -10,11 +10,26 @@ use Rattle.records.proofs.Coded.{past, by-ending, withEnding}
 use Rattle.records.proofs.outcome_of.Statement.{statement}
 use Rattle.records.proofs.outcome_of.Tie as tie
 
+returns : tie.Need-returns
+returns c = search needs
+
 returns-2 : tie.Need-returns-2
 returns-2 c = by-ending (asWords (c .before .before .args .w)) 1 (c .before .match .keys2) (rw (c .side-of .ensures))
 
 returns-3 : tie.Need-returns-3
 returns-3 c = by-ending (asWords (c .before .before .args .w)) 2 (c .before .match .keys3) (rw (c .side-of2 .ensures))
+
+returns-4 : tie.Need-returns-4
+returns-4 c = search needs
+
+returns-5 : tie.Need-returns-5
+returns-5 c = search needs
+
+returns-6 : tie.Need-returns-6
+returns-6 c = search needs
+
+returns-7 : tie.Need-returns-7
+returns-7 c = search needs
 
 returns-8 : tie.Need-returns-8
 returns-8 c = past (λ (n : ℕ). outcomeOf (withEnding (asWords (c .before .args .w)) n)) Miss _ 7 (λ m. refl) (c .match .rest)
@@ -25,11 +40,11 @@ outcome-of-spec =
     (tie.spec
     (λ c κs. search needs)
     (λ c κs. search needs)
-    (λ c. search needs)
+    returns
     returns-2
     returns-3
-    (λ c. search needs)
-    (λ c. search needs)
-    (λ c. search needs)
-    (λ c. search needs)
+    returns-4
+    returns-5
+    returns-6
+    returns-7
     returns-8)

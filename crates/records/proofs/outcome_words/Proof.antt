@@ -11,6 +11,18 @@ returns c = search hit-words
 returns-2 : tie.Need-returns-2
 returns-2 c = search wrote-words
 
+returns-3 : tie.Need-returns-3
+returns-3 c = search by-outcome
+
+returns-4 : tie.Need-returns-4
+returns-4 c = search by-outcome
+
+returns-5 : tie.Need-returns-5
+returns-5 c = search by-outcome
+
+returns-6 : tie.Need-returns-6
+returns-6 c = search by-outcome
+
 pub outcome-words-spec : {M : Type 1} → statement M
 outcome-words-spec =
     tie.close
@@ -31,7 +43,7 @@ outcome-words-spec =
     (λ c κs. search needs)
     returns
     returns-2
-    (λ c. search by-outcome)
-    (λ c. search by-outcome)
-    (λ c. search by-outcome)
-    (λ c. search by-outcome))
+    returns-3
+    returns-4
+    returns-5
+    returns-6)

@@ -11,6 +11,18 @@ returns c = search drops-hit
 returns-2 : tie.Need-returns-2
 returns-2 c = search drops-wrote
 
+returns-3 : tie.Need-returns-3
+returns-3 c = search needs
+
+returns-4 : tie.Need-returns-4
+returns-4 c = search needs
+
+returns-5 : tie.Need-returns-5
+returns-5 c = search needs
+
+returns-6 : tie.Need-returns-6
+returns-6 c = search needs
+
 pub drops-two-spec : {M : Type 1} → statement M
 drops-two-spec =
     tie.close
@@ -25,7 +37,7 @@ drops-two-spec =
     (λ c. search needs)
     returns
     returns-2
-    (λ c. search needs)
-    (λ c. search needs)
-    (λ c. search needs)
-    (λ c. search needs))
+    returns-3
+    returns-4
+    returns-5
+    returns-6)

@@ -8,5 +8,8 @@ use Rattle.rows.proofs.sought_row.Tie as tie
 returns : tie.Need-returns
 returns c = search sought-room
 
+returns-2 : tie.Need-returns-2
+returns-2 c = search needs
+
 pub sought-row-spec : {M : Type 1} → statement M
-sought-row-spec = tie.close (tie.spec (λ c. search needs) (λ c κs. search needs) (λ c. search needs) returns (λ c. search needs))
+sought-row-spec = tie.close (tie.spec (λ c. search needs) (λ c κs. search needs) (λ c. search needs) returns returns-2)

@@ -11,6 +11,12 @@ home-one-requires c κs = search tested-fits
 home-two-requires : tie.Need-home-two-requires
 home-two-requires c κs = search tested-fits
 
+returns : tie.Need-returns
+returns c = search needs
+
+returns-2 : tie.Need-returns-2
+returns-2 c = search needs
+
 pub rows-case-spec : {M : Type 1} → statement M
 rows-case-spec =
     tie.close
@@ -36,5 +42,5 @@ rows-case-spec =
     (λ c κs. search needs)
     (λ c. search needs)
     (λ c κs. search needs)
-    (λ c. search needs)
-    (λ c. search needs))
+    returns
+    returns-2)

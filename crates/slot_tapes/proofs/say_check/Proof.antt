@@ -9,6 +9,21 @@ use Rattle.slot_tapes.proofs.say_check.Tie as tie
 mul-if1 : tie.Need-mul-if1
 mul-if1 c = omega (arith, slots-few _ (c .before .before .pre))
 
+returns : tie.Need-returns
+returns c = search needs
+
+returns-2 : tie.Need-returns-2
+returns-2 c = search needs
+
+returns-3 : tie.Need-returns-3
+returns-3 c = search needs
+
+returns-4 : tie.Need-returns-4
+returns-4 c = search needs
+
+returns-5 : tie.Need-returns-5
+returns-5 c = search needs
+
 pub say-check-spec : {M : Type 1} → statement M
 say-check-spec =
     tie.close
@@ -17,7 +32,7 @@ say-check-spec =
     mul-if1
     (λ c. search needs)
     (λ c κs. search needs)
-    (λ c. search needs)
+    returns
     (λ c κs. search needs)
     (λ c. search needs)
     (λ c. search needs)
@@ -28,7 +43,7 @@ say-check-spec =
     (λ c κs. search needs)
     (λ c. search needs)
     (λ c κs. search needs)
-    (λ c. search needs)
-    (λ c. search needs)
-    (λ c. search needs)
-    (λ c. search needs))
+    returns-2
+    returns-3
+    returns-4
+    returns-5)

@@ -8,6 +8,9 @@ use Rattle.slot_tapes.proofs.slots_case.Tie as tie
 say-check-requires : tie.Need-say-check-requires
 say-check-requires c κs = search tested-fits
 
+returns : tie.Need-returns
+returns c = search needs
+
 pub slots-case-spec : {M : Type 1} → statement M
 slots-case-spec =
     tie.close
@@ -21,4 +24,4 @@ slots-case-spec =
     (λ c κs. search needs)
     (λ c. search needs)
     (λ c κs. search needs)
-    (λ c. search needs))
+    returns)

@@ -5,6 +5,15 @@ use Rattle.acts.proofs.Acting.{written-full, written-again}
 use Rattle.acts.proofs.acts.written.Statement.{statement}
 use Rattle.acts.proofs.acts.written.Tie as tie
 
+returns : tie.Need-returns
+returns c = search needs
+
+returns-2 : tie.Need-returns-2
+returns-2 c = search needs
+
+returns-3 : tie.Need-returns-3
+returns-3 c = search needs
+
 returns-4 : tie.Need-returns-4
 returns-4 c = search written-full
 
@@ -25,8 +34,8 @@ written-spec =
     (λ c κs. search needs)
     (λ c. search needs)
     (λ c κs. search needs)
-    (λ c. search needs)
-    (λ c. search needs)
-    (λ c. search needs)
+    returns
+    returns-2
+    returns-3
     returns-4
     returns-5)

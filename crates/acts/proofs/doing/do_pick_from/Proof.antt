@@ -8,5 +8,8 @@ use Rattle.acts.proofs.doing.do_pick_from.Tie as tie
 pick-requires : tie.Need-pick-requires
 pick-requires c κs = (search needs, (search needs, (search column-in, (search needs, search needs))))
 
+returns : tie.Need-returns
+returns c = search needs
+
 pub do-pick-from-spec : {M : Type 1} → statement M
-do-pick-from-spec = tie.close (tie.spec (λ c. search needs) pick-requires (λ c. search needs) (λ c. search needs))
+do-pick-from-spec = tie.close (tie.spec (λ c. search needs) pick-requires (λ c. search needs) returns)

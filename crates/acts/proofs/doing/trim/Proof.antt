@@ -8,6 +8,9 @@ use Rattle.acts.proofs.doing.trim.Tie as tie
 set-place-requires : tie.Need-set-place-requires
 set-place-requires c κs = search off-fits
 
+returns : tie.Need-returns
+returns c = search needs
+
 returns-2 : tie.Need-returns-2
 returns-2 c = search trim-off
 
@@ -25,7 +28,7 @@ trim-spec =
     set-place-requires
     (λ c. search needs)
     (λ c κs. search needs)
-    (λ c. search needs)
+    returns
     (λ c. search needs)
     returns-2
     (λ c. search needs)

@@ -24,6 +24,9 @@ returns-3 c = search starts-fallen
 start-standing-requires : tie.Need-start-standing-requires
 start-standing-requires c κs = tests-stood _ _ _ _ _ _ _ _ (c .before .before .before .before .before .before .before .before .sizes-ok .ensures) (c .before .before .before .before .before .before .before .if1 .left) (c .before .before .before .before .before .lengths-ok .ensures) (c .before .before .before .before .if2 .left) (c .before .before .stands .ensures) (c .before .if3 .left)
 
+returns-4 : tie.Need-returns-4
+returns-4 c = search needs
+
 pub start-spec : {M : Type 1} → statement M
 start-spec =
     tie.close
@@ -38,4 +41,4 @@ start-spec =
     returns-3
     start-standing-requires
     (λ c. search needs)
-    (λ c. search needs))
+    returns-4)

@@ -24,6 +24,9 @@ returns-3 c = search steps-fallen
 step-standing-requires : tie.Need-step-standing-requires
 step-standing-requires c κs = tests-stood _ _ _ _ _ _ _ _ (c .before .before .before .before .before .before .before .before .before .before .before .before .before .before .before .before .before .sizes-ok .ensures) (c .before .before .before .before .before .before .before .before .before .before .before .before .before .before .before .before .if1 .left) (c .before .before .before .before .before .before .before .before .before .before .before .lengths-ok .ensures) (c .before .before .before .before .before .before .before .before .before .before .if2 .left) (c .before .before .before .before .before .stands .ensures) (c .before .before .before .before .if3 .left)
 
+returns-4 : tie.Need-returns-4
+returns-4 c = search needs
+
 pub step-spec : {M : Type 1} → statement M
 step-spec =
     tie.close
@@ -47,4 +50,4 @@ step-spec =
     (λ c. search needs)
     (λ c. search needs)
     (λ c. search needs)
-    (λ c. search needs))
+    returns-4)

@@ -5,6 +5,21 @@ use Rattle.moves.proofs.Ways.{room-at}
 use Rattle.moves.proofs.next.after_room.Statement.{statement}
 use Rattle.moves.proofs.next.after_room.Tie as tie
 
+returns : tie.Need-returns
+returns c = search room-at
+
+returns-2 : tie.Need-returns-2
+returns-2 c = search room-at
+
+returns-3 : tie.Need-returns-3
+returns-3 c = search room-at
+
+returns-4 : tie.Need-returns-4
+returns-4 c = search needs
+
+returns-5 : tie.Need-returns-5
+returns-5 c = search room-at
+
 pub after-room-spec : {M : Type 1} → statement M
 after-room-spec =
     tie.close
@@ -14,8 +29,8 @@ after-room-spec =
     (λ c. search needs)
     (λ c. search needs)
     (λ c. search needs)
-    (λ c. search room-at)
-    (λ c. search room-at)
-    (λ c. search room-at)
-    (λ c. search needs)
-    (λ c. search room-at))
+    returns
+    returns-2
+    returns-3
+    returns-4
+    returns-5)

@@ -14,6 +14,12 @@ returns-2 c = search second-at
 returns-3 : tie.Need-returns-3
 returns-3 c = search second-at
 
+returns-4 : tie.Need-returns-4
+returns-4 c = search needs
+
+returns-5 : tie.Need-returns-5
+returns-5 c = search needs
+
 pub after-second-spec : {M : Type 1} → statement M
 after-second-spec =
     tie.close
@@ -26,5 +32,5 @@ after-second-spec =
     returns
     returns-2
     returns-3
-    (λ c. search needs)
-    (λ c. search needs))
+    returns-4
+    returns-5)
