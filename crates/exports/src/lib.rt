@@ -1,5 +1,7 @@
 // The C door: the desk's calls as C functions over plain numbers. docs/C-DOOR.md has the header.
 // Uses `desk` and what stands below it.
+#![tactic(auto)]
+
 ghost use Rattle.std.specs.Prelude.{◌≡◌, ◌≤◌};
 ghost use Rattle.machine.specs.Lane.{lane_numbers};
 ghost use Rattle.machine.specs.Desk.{opened_number, opening_number, after_opening, start_number, start_answer, after_start, answer_numbers, step_numbers, step_answer, after_step};
@@ -14,7 +16,7 @@ use records::LANE_NUMBERS;
 
 // What opening answers: 01's number, and the slot's index with 3, 4 and 5.
 #[repr(C)]
-#[derive(Drop)]
+#[derive(Clone, Copy)]
 pub struct SgOpened {
     pub number: u32,
     pub index: u32,
@@ -22,7 +24,7 @@ pub struct SgOpened {
 
 // What a step answers: 01's number, how the operation ended, and a read's value.
 #[repr(C)]
-#[derive(Drop)]
+#[derive(Clone, Copy)]
 pub struct SgStepped {
     pub number: u32,
     pub end: u32,

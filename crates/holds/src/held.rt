@@ -17,7 +17,7 @@ use places::{Sizes, lock_of, rows_of};
 use rows::{drops_two, mode_of, shared_rows, sought_row, swing_rows};
 
 // What a lane adds to a lock: to its flag, to its count, to its writers and to its readers.
-#[derive(Drop)]
+#[derive(Clone, Copy)]
 pub struct Shares {
     pub flag: u32,
     pub count: u32,

@@ -1,5 +1,7 @@
 // A lane stepped where it lies, behind a reference: the step by value, and the store of its lane.
 // Uses `lanes` and what stands below it.
+#![tactic(auto)]
+
 ghost use Rattle.machine.specs.Steps.{step_lane};
 ghost use Rattle.acts.specs.Fitting.{memory};
 ghost use Rattle.lanes.specs.Fitting.{StepFits, Steps};

@@ -1,5 +1,7 @@
 // Steps the lane of 01's whole case where it lies: an insert alone in an empty table. Prints what each step answers, then the
 // slots. The stored output is beside src/. Uses `in_place` and what stands below it, and the kit's `io` and `libc`.
+#![tactic(auto)]
+
 ghost use Rattle.std.specs.Prelude.{◌≡◌};
 ghost use Rattle.in_place_tapes.specs.Tape.{small_sizes, first_lane, Stands};
 

@@ -1,12 +1,14 @@
 // The records of a job: a byte of kind, then a body whose length the kind fixes. What stands at an offset, and the offset after it.
 // Uses `places` and `machine`.
+#![tactic(auto)]
+
 ghost use Rattle.std.specs.Prelude.{◌≡◌, ◌+◌, ◌<◌, length};
 ghost use Rattle.job_records.specs.Records.{number, sizes_at, read_at, delete_at, insert_at, step_at, body_length, is_known, body_at, record_at};
 
 use machine::Request;
 use places::Sizes;
 
-#[derive(Drop)]
+#[derive(Clone, Copy)]
 pub enum Record {
     // Kind 1.
     Opens(Sizes),
@@ -21,7 +23,7 @@ pub enum Record {
 }
 
 // What stands at an offset, and the offset after it; the same offset where it is Bad.
-#[derive(Drop)]
+#[derive(Clone, Copy)]
 pub struct Taken {
     pub item: Record,
     pub next: usize,

@@ -1,5 +1,7 @@
 // The run of a job: its records, one after the other, over a table in local memory, and what they print.
 // Uses `desk` for the table, `reader` and `job_records` for the records, `lines` and `prints` for the print, and what stands below them.
+#![tactic(auto)]
+
 mod doing;
 
 ghost use Rattle.std.specs.Prelude.{◌≡◌, true, ◌++◌, ◌+◌, ◌*◌, ◌≤◌, length};
@@ -39,7 +41,7 @@ const LANES_NUMBERS: usize = 112;
 const PATH_NUMBERS: usize = 198;
 
 // What a record has done: the offset after what was printed, and whether the job goes on.
-#[derive(Drop)]
+#[derive(Clone, Copy)]
 struct Done {
     next: usize,
     goes: bool,

@@ -1,4 +1,6 @@
 // The lines that a job prints, put into lent bytes. Uses `places`, `slots`, `machine` and `prints`.
+#![tactic(auto)]
+
 ghost use Rattle.std.specs.Prelude.{◌≡◌, ◌+◌, ◌*◌, ◌≤◌, ◌<◌, length};
 ghost use Rattle.places.specs.Table.{Fits, slot_count};
 ghost use Rattle.prints.specs.Put.{Put};

@@ -1,4 +1,6 @@
 // A lock word, the steps that take it for reading or writing, its release, and what a lane's part in it adds to it. Uses `lists`.
+#![tactic(auto)]
+
 mod parts;
 
 ghost use Rattle.std.specs.Prelude.{◌≡◌, ◌+◌, ◌*◌, ◌≤◌, ◌<◌, length};
@@ -7,21 +9,21 @@ ghost use Rattle.locks.specs.Locks.{lock_at, with_lock, with_flag, with_count, h
 pub use parts::{part_count, part_flag, part_reads, part_writes};
 
 // A lock: the flag of its writer, the count of its readers.
-#[derive(Drop)]
+#[derive(Clone, Copy)]
 pub struct Lock {
     pub flag: u32,
     pub count: u32,
 }
 
 // What a lock is taken for.
-#[derive(Drop)]
+#[derive(Clone, Copy)]
 pub enum Mode {
     Reading,
     Writing,
 }
 
 // How far a lane is with taking a lock: R1 to R4 for reading (R2 with the count it noted), W1 and W2 for writing.
-#[derive(Drop)]
+#[derive(Clone, Copy)]
 pub enum Grab {
     R1,
     R2(u32),
@@ -32,21 +34,21 @@ pub enum Grab {
 }
 
 // What a step of taking a lock comes to: the lock is held, or the lane goes on at that grab.
-#[derive(Drop)]
+#[derive(Clone, Copy)]
 pub enum Tried {
     Held,
     Waits(Grab),
 }
 
 // A lock after a step of taking it.
-#[derive(Drop)]
+#[derive(Clone, Copy)]
 pub struct AfterTry {
     pub lock: Lock,
     pub tried: Tried,
 }
 
 // A lane's part in a lock: none, on the way to taking it, or holding it.
-#[derive(Drop)]
+#[derive(Clone, Copy)]
 pub enum Part {
     NoPart,
     Tries(Grab),

@@ -1,11 +1,13 @@
 // The machine as 01 says it: a lane and its numbers, its steps, the standing check, and what the desk answers. Definitions and laws,
 // no code. Uses `lists`, `places`, `slots`, `locks` and `paths`.
+#![tactic(auto)]
+
 use locks::{Grab, Mode, Part, Tried};
 use paths::Place;
 use slots::Slot;
 
 // What a lane is doing. Again is an insert in its second pass.
-#[derive(Drop)]
+#[derive(Clone, Copy)]
 pub enum Op {
     NoOp,
     Read,
@@ -15,21 +17,21 @@ pub enum Op {
 }
 
 // Which of the two home rows, in locking order.
-#[derive(Drop)]
+#[derive(Clone, Copy)]
 pub enum Side {
     First,
     Second,
 }
 
 // A search: the picks it has made, and the places on its path.
-#[derive(Drop)]
+#[derive(Clone, Copy)]
 pub struct Trail {
     pub picks: u32,
     pub places: u32,
 }
 
 // A walk: the places still on its path, and the free place.
-#[derive(Drop)]
+#[derive(Clone, Copy)]
 pub struct Walk {
     pub places: u32,
     pub row: u32,
@@ -37,7 +39,7 @@ pub struct Walk {
 }
 
 // What a pass over the two home rows came to. A read's hit has its column and the value seen.
-#[derive(Drop)]
+#[derive(Clone, Copy)]
 pub enum Outcome {
     Hit(Side, u32, u32),
     Wrote(Side),
@@ -48,14 +50,14 @@ pub enum Outcome {
 }
 
 // What an attempt of the search came to: a free column, or a full row.
-#[derive(Drop)]
+#[derive(Clone, Copy)]
 pub enum Found {
     Room(u32),
     Full,
 }
 
 // How an insert ends.
-#[derive(Drop)]
+#[derive(Clone, Copy)]
 pub enum Ending {
     Yes,
     Searched(u32),
@@ -63,7 +65,7 @@ pub enum Ending {
 }
 
 // Where a lane stands: its next step is the item named.
-#[derive(Drop)]
+#[derive(Clone, Copy)]
 pub enum Stage {
     Idle,
     TakeMain(Grab),
@@ -90,7 +92,7 @@ pub enum Stage {
     DropHigh(Walk),
 }
 
-#[derive(Drop)]
+#[derive(Clone, Copy)]
 pub struct Lane {
     pub op: Op,
     pub key: u32,
@@ -99,7 +101,7 @@ pub struct Lane {
 }
 
 // What a release does to the path: nothing, the place at that index leaves it, or all do.
-#[derive(Drop)]
+#[derive(Clone, Copy)]
 pub enum Tail {
     Keep,
     TakeOff(u32),
@@ -107,7 +109,7 @@ pub enum Tail {
 }
 
 // One atomic thing that a step does to the lent memory.
-#[derive(Drop)]
+#[derive(Clone, Copy)]
 pub enum Act {
     Rest,
     Try(u32, Grab),
@@ -120,14 +122,14 @@ pub enum Act {
 }
 
 // What the act found: how taking a lock went, and the slot looked at. Held and zeros where the act does neither.
-#[derive(Drop)]
+#[derive(Clone, Copy)]
 pub struct Seen {
     pub tried: Tried,
     pub slot: Slot,
 }
 
 // What a step answers: the lane goes on, or its operation ends with this result.
-#[derive(Drop)]
+#[derive(Clone, Copy)]
 pub enum Answer {
     GoesOn,
     ReadNone,
@@ -139,14 +141,14 @@ pub enum Answer {
 }
 
 // A lane after its step, and the answer.
-#[derive(Drop)]
+#[derive(Clone, Copy)]
 pub struct Moved {
     pub lane: Lane,
     pub answer: Answer,
 }
 
 // What a lane claims of one row: its first columns that lack the lane's key, and its first columns that are full.
-#[derive(Drop)]
+#[derive(Clone, Copy)]
 pub struct RowClaim {
     pub row: u32,
     pub lacking: u32,
@@ -154,7 +156,7 @@ pub struct RowClaim {
 }
 
 // What a lane claims of one slot, by row and column.
-#[derive(Drop)]
+#[derive(Clone, Copy)]
 pub enum SlotClaim {
     NoClaim,
     HasKey(u32, u32),
@@ -163,7 +165,7 @@ pub enum SlotClaim {
 }
 
 // All that a lane claims of the slots in the rows it holds.
-#[derive(Drop)]
+#[derive(Clone, Copy)]
 pub struct Claims {
     pub one: RowClaim,
     pub two: RowClaim,
@@ -171,14 +173,14 @@ pub struct Claims {
 }
 
 // A part in a row lock.
-#[derive(Drop)]
+#[derive(Clone, Copy)]
 pub struct RowPart {
     pub lock: u32,
     pub part: Part,
 }
 
 // A lane's part in the locks: in main, and in at most two row locks.
-#[derive(Drop)]
+#[derive(Clone, Copy)]
 pub struct Grip {
     pub main: Part,
     pub one: RowPart,
@@ -186,7 +188,7 @@ pub struct Grip {
 }
 
 // What opening answers. The last three name the lowest slot that breaks a rule.
-#[derive(Drop)]
+#[derive(Clone, Copy)]
 pub enum Opened {
     OpenAccepted,
     OpenBadSizes,
@@ -197,7 +199,7 @@ pub enum Opened {
 }
 
 // What a start answers.
-#[derive(Drop)]
+#[derive(Clone, Copy)]
 pub enum Started {
     StartAccepted,
     StartBadSizes,
@@ -209,7 +211,7 @@ pub enum Started {
 }
 
 // What a step answers.
-#[derive(Drop)]
+#[derive(Clone, Copy)]
 pub enum Stepped {
     StepDone(Answer),
     StepBadSizes,
@@ -220,7 +222,7 @@ pub enum Stepped {
 }
 
 // What a start begins.
-#[derive(Drop)]
+#[derive(Clone, Copy)]
 pub enum Request {
     AskRead(u32),
     AskDelete(u32),

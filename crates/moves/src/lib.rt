@@ -1,5 +1,7 @@
 // Where a lane goes after its act, one small function for each way: the stage that follows, or the end and its answer.
 // Uses `rows`, `machine` and what stands below them.
+#![tactic(auto)]
+
 mod going;
 mod next;
 

@@ -1,4 +1,6 @@
 // The path store: the places whose pairs an insert may move. Uses `lists` and `places`.
+#![tactic(auto)]
+
 ghost use Rattle.std.specs.Prelude.{◌≡◌, ◌+◌, ◌*◌, ◌≤◌, ◌<◌, length};
 ghost use Rattle.places.specs.Table.{Fits};
 ghost use Rattle.paths.specs.Path.{place_at, with_place, no_place, emptied, last_of, other_row};
@@ -6,7 +8,7 @@ ghost use Rattle.paths.specs.Path.{place_at, with_place, no_place, emptied, last
 use places::{Sizes, home_one, home_two};
 
 // A place on the path: where a pair was seen, and its key.
-#[derive(Drop)]
+#[derive(Clone, Copy)]
 pub struct Place {
     pub row: u32,
     pub column: u32,

@@ -1,4 +1,6 @@
 // Text put into lent bytes from an offset on: words, numbers and strokes. Uses `lists`.
+#![tactic(auto)]
+
 ghost use Rattle.std.specs.Prelude.{◌≡◌, [], ◌∷◌, cond, ◌+◌, ◌≤◌, ◌<◌, length, get_or};
 ghost use Rattle.prints.specs.Text.{decimal, letters, dot, stroke_of};
 ghost use Rattle.prints.specs.Put.{Put, Labelled};

@@ -1,5 +1,7 @@
 // The range test of a lane: every number is in range for the place in the steps where the lane stands.
 // Uses `records`, `rows` and what stands below them.
+#![tactic(auto)]
+
 ghost use Rattle.std.specs.Prelude.{◌≡◌, [], ◌∷◌, not, ◌+◌, eqb, ltb};
 ghost use Rattle.lists.specs.Below.{all_of};
 ghost use Rattle.places.specs.Table.{Fits};

@@ -1,11 +1,13 @@
 // A reader of a job: it holds the lent bytes and its place, the offset of the next record.
 // Uses `job_records`.
+#![tactic(auto)]
+
 ghost use Rattle.std.specs.Prelude.{◌≡◌};
 ghost use Rattle.job_records.specs.Records.{record_at};
 
 use job_records::{Taken, record_at};
 
-#[derive(Drop)]
+#[derive(Clone, Copy)]
 struct Reader<'a> {
     job: &'a [u8],
     at: usize,

@@ -1,5 +1,7 @@
 // The 14 numbers of a lane as lent: the number of each choice and back, the numbers of a stage and back, a lane read and written,
 // whether it is idle, and whether 14 numbers are those of a lane. Uses `machine` and what stands below it.
+#![tactic(auto)]
+
 ghost use Rattle.std.specs.Prelude.{◌≡◌, ◌+◌, ◌*◌, ◌<◌, length};
 ghost use Rattle.machine.specs.Lane.{op_code, op_of, grab_code, grab_noted, grab_from, side_code, side_of, outcome_words, outcome_of, words, ending_words, ending_of, found_words, found_of, walk_words, stage_words, stage_of, words_at, lane_at, with_lane};
 ghost use Rattle.machine.specs.Lane.{decodes as Lane·decodes};
@@ -13,7 +15,7 @@ use machine::{Ending, Found, Lane, Op, Outcome, Side, Stage, Trail, Walk};
 pub const LANE_NUMBERS: usize = 14;
 
 // The numbers of a stage, 0 where it has no use for one.
-#[derive(Drop)]
+#[derive(Clone, Copy)]
 struct StageWords {
     code: u32,
     grab: u32,

@@ -1,5 +1,7 @@
 // The rows and locks that a lane's steps are about: those of its key, of its search and of its walk.
 // Uses `places`, `locks`, `paths` and `machine`.
+#![tactic(auto)]
+
 ghost use Rattle.std.specs.Prelude.{◌≡◌};
 ghost use Rattle.places.specs.Table.{Fits, lock_of};
 ghost use Rattle.paths.specs.Path.{other_row};

@@ -1,5 +1,7 @@
 // Reads a job from standard input and writes what it prints. One byte more than the longest job is read, so that a longer one is seen.
 // Uses `jobs`, and the kit's `io` and `libc`.
+#![tactic(auto)]
+
 use jobs::OUT_BYTES;
 use libc::{STDIN_FILENO, STDOUT_FILENO};
 

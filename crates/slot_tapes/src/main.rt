@@ -1,5 +1,7 @@
 // Runs 01's row cases and some lists of slots, and prints what `places` and `slots` say of each. The stored output is beside
 // src/. Uses `places` and `slots`, and the kit's `io` and `libc`.
+#![tactic(auto)]
+
 ghost use Rattle.places.specs.Table.{Fits};
 
 use libc::STDOUT_FILENO;

@@ -1,5 +1,7 @@
 // The standing check of a table: its slots, every lane, the path and every lock. Uses `ranges`, `holds`, `acts`, `records`
 // and what stands below them.
+#![tactic(auto)]
+
 mod claims;
 mod counts;
 mod reads;

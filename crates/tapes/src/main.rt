@@ -1,5 +1,7 @@
 // Runs each job of a stored list of tapes and writes its name and its print. Beside src/: stdin is the list, stdout the prints of the
 // independent program (tests/independent/README.md says how both are made). Uses `jobs`, and the kit's `io` and `libc`.
+#![tactic(auto)]
+
 ghost use Rattle.std.specs.Prelude.{◌+◌, ◌≤◌, ◌<◌, length};
 
 use jobs::OUT_BYTES;

@@ -1,0 +1,7 @@
+-- `saw_nothing` is its definition, from that of the empty slot.
+-- Assumes nothing.
+use borrow.Author.Rules.{rules}
+use Rattle.acts.proofs.doing.saw_nothing.Goals as goal
+
+pub returns : goal.returns
+returns c = cc

@@ -1,0 +1,7 @@
+-- `search_grip` is its definition: from those of what it calls.
+-- Assumes nothing.
+use borrow.Author.Rules.{rules}
+use Rattle.holds.proofs.held.search_grip.Goals as goal
+
+pub returns : goal.returns
+returns c = rw (c.grip.ensures, c.lock_of-lock.ensures)

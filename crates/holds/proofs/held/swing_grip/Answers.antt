@@ -1,0 +1,7 @@
+-- `swing_grip` is its definition: from those of what it calls.
+-- Assumes nothing.
+use borrow.Author.Rules.{rules}
+use Rattle.holds.proofs.held.swing_grip.Goals as goal
+
+pub returns : goal.returns
+returns c = rw (c.walk_grip.ensures, c.second_part.ensures, c.swing_rows-rows.ensures)

@@ -1,0 +1,7 @@
+-- `key_claims` is its definition: from those of what it calls.
+-- Assumes nothing.
+use borrow.Author.Rules.{rules}
+use Rattle.holds.proofs.known.key_claims.Goals as goal
+
+pub returns : goal.returns
+returns c = rw (c.pass_claims.ensures, c.row_on-row.ensures)

@@ -1,0 +1,23 @@
+-- `late_claims` is its definition: by what the outcome is.
+-- Assumes nothing.
+use borrow.Author.Rules.{rules}
+use Rattle.holds.proofs.Holding.{by_late}
+use Rattle.holds.proofs.known.late_claims.Goals as goal
+
+pub returns-in-Hit : goal.returns-in-Hit
+returns-in-Hit c = search by_late
+
+pub returns-in-Wrote : goal.returns-in-Wrote
+returns-in-Wrote c = search by_late
+
+pub returns-in-Filled : goal.returns-in-Filled
+returns-in-Filled c = search by_late
+
+pub returns-in-Miss : goal.returns-in-Miss
+returns-in-Miss c = search by_late
+
+pub returns-in-Picked : goal.returns-in-Picked
+returns-in-Picked c = search by_late
+
+pub returns-in-Stuck : goal.returns-in-Stuck
+returns-in-Stuck c = search by_late

@@ -1,0 +1,20 @@
+-- `after_write` is its definition, by the operation.
+-- Assumes nothing.
+use borrow.Author.Rules.{rules}
+use Rattle.moves.proofs.Ways.{write_at}
+use Rattle.moves.proofs.going.after_write.Goals as goal
+
+pub returns-in-NoOp : goal.returns-in-NoOp
+returns-in-NoOp c = search write_at
+
+pub returns-in-Read : goal.returns-in-Read
+returns-in-Read c = search write_at
+
+pub returns-in-Delete : goal.returns-in-Delete
+returns-in-Delete c = search write_at
+
+pub returns-in-Insert : goal.returns-in-Insert
+returns-in-Insert c = search write_at
+
+pub returns-in-Again : goal.returns-in-Again
+returns-in-Again c = search write_at

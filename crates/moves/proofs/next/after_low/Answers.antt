@@ -1,0 +1,11 @@
+-- `after_low` is its definition, by whether the swing's rows have one lock.
+-- Assumes nothing.
+use borrow.Author.Rules.{rules}
+use Rattle.rows.proofs.Choices.{one_lock, two_locks}
+use Rattle.moves.proofs.next.after_low.Goals as goal
+
+pub returns-then-swing_rows : goal.returns-then-swing_rows
+returns-then-swing_rows c = search one_lock
+
+pub returns-else-swing_rows : goal.returns-else-swing_rows
+returns-else-swing_rows c = search two_locks
