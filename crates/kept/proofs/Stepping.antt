@@ -1,6 +1,6 @@
 -- An accepted step keeps the standing check, and the lengths of what is lent.
 -- Assumes nothing.
-use mathlib.Core.Path.{◌≡◌, refl, ap, sym, ◌∙◌}
+use mathlib.Core.Path.{◌≡◌, refl, ap, subst, sym, ◌∙◌}
 use mathlib.Core.Logic.{◌≢◌}
 use mathlib.Core.Bool.{true, false, ◌||◌, false≢true}
 use Prim.Native.Nat.{ℕ, ◌+◌, ◌-◌, ◌≤◌, ◌<◌}
@@ -258,11 +258,19 @@ module _ (z : Sizes) (f : Fits z) (t : Table) (len : Lengths z (memory_of t)) (l
   words : LocksDo t.locks after.locks (touch_at z l last seen s) (z.locks + 1)
   words = locks_do z f l last byte (memory_of t) len s range.1.1
 
+  ranges : (j : ℕ) → j < z.lanes → Each (lane_in z (σ' j) (last_for π' (σ' j)))
+  ranges j hj =
+      let InRange : Lane → Place → Type 0 = λ x last. Each (lane_in z x last) in
+      elim (ℕ_discrete j i) [
+        | yes e ↦ subst (λ x. InRange x (last_for π' x)) (sym here ∙ ap σ' (sym e)) range'
+        | no d ↦ subst (λ x. InRange x (last_for π' x)) (sym (there j d)) (subst (InRange (σ j)) (sym (lasts j hj d)) (facts.range j hj))
+      ]
+
   stands' : Stands z (slot_at after.slots) (lock_at after.locks) σ' π'
   stands' =
       record {
         sound = slots.sound;
-        range = λ j hj. elim (ℕ_discrete j i) [ yes e ↦ rw (e, here) range' | no d ↦ rw (there j d, lasts j hj d) (facts.range j hj) ];
+        range = ranges;
         claims = λ j hj. elim (ℕ_discrete j i) [ yes e ↦ rw (e, here) (slots.own own) | no d ↦ rw (there j d, lasts j hj d) (slots.others j hj d) ];
         locks = λ k hk. locks_kept z σ σ' π π' i seen m alone_here range.1.1 way follow (lock_at t.locks) (lock_at after.locks) k (facts.locks k hk) (words.off k) (words.on k hk);
         path = path_kept z σ σ' π π' i (path_length s) (next_length z last s) hi refl next_here lane_lengths route facts.path;

@@ -1,0 +1,16 @@
+-- `places_stand` is its definition: the places passed so far stand.
+use mathlib.Core.Bool.{true}
+use mathlib.Core.Path.{◌≡◌, refl}
+use Prim.Native.Nat.{◌≤◌, ◌-◌}
+use native.Mathlib.Omega.{arith}
+use borrow.Author.Rules.{rules}
+use Rattle.lists.specs.Below.{all_below}
+use Rattle.standing.specs.Looks.{placed_at}
+use Rattle.standing.proofs.Turns.{placed_stop, placed_pass, all_end}
+use Rattle.standing.proofs.route.places_stand.Given as goal
+
+abbrev pub invariant-loop-i : goal.invariant-loop-i
+invariant-loop-i l = (l.i ≤ l.used) × (all_below l.i (placed_at l.z l.path) ≡ true)
+
+abbrev pub decreases-loop-i : goal.decreases-loop-i
+decreases-loop-i l = l.used - l.i
