@@ -1,5 +1,6 @@
 -- `open` is its definition, one law of `Opens` for each way through it.
 -- Assumes nothing.
+use Rattle.std.proofs.lemmas.Bool.{not_from_true}
 use borrow.Author.Rules.{rules}
 use Rattle.desk.proofs.Opens.{opens_badly, opens_short, opens_misshapen, opens_astray, opens_twice, opens}
 use Rattle.desk.proofs.Outcomes.{tests_fit, slots_long}
@@ -15,7 +16,7 @@ pub returns-then-not-lengths_ok : goal.returns-then-not-lengths_ok
 returns-then-not-lengths_ok c = search opens_short
 
 pub check-found-requires : goal.check-found-requires
-check-found-requires c = record { fits = search tests_fit; slots_len = slots_long _ _ _ _ _ _ c.lengths_ok.ensures c.if-not-lengths_ok.false }
+check-found-requires c = record { fits = search tests_fit; slots_len = slots_long _ _ _ _ _ _ c.lengths_ok.ensures (not_from_true _ c.if-not-lengths_ok.false) }
 
 pub returns-in-Sound : goal.returns-in-Sound
 returns-in-Sound c = search opens
