@@ -1,14 +1,14 @@
 // Reads a job from standard input and writes what it prints. One byte more than the longest job is read, so that a longer one is seen.
-// Uses `jobs`, and the kit's `io` and `libc`.
+// Uses `jobs` and `input`.
 #![tactic(auto)]
 
 use jobs::OUT_BYTES;
-use libc::{STDIN_FILENO, STDOUT_FILENO};
+use std::io::{self, Write};
 
-fn main() {
+fn main(rt: HostRuntime) -> io::Result<()> {
     let mut job = [0u8; 60001];
-    let n = io::read_full(STDIN_FILENO, &mut job);
+    let n = input::fill(&mut rt.reader(), &mut job)?;
     let mut out = [0u8; OUT_BYTES];
     let m = jobs::run(&job[..n], &mut out);
-    io::write_all(STDOUT_FILENO, &out[..m]);
+    io::writer(&rt).write_all(&out[..m])
 }
