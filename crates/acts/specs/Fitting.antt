@@ -2,21 +2,19 @@
 -- Assumes nothing.
 use Rattle.std.specs.Prelude.{ℕ, ◌+◌, ◌*◌, ◌≤◌, ◌<◌, ◌≡◌, Bool, ◌&&◌, List, length}
 use Rattle.places.specs.declared.Sizes.{Sizes}
-use Rattle.places.specs.Table.{Fits, slot_index, slot_count}
+use Rattle.places.specs.Table.{slot_index, slot_count}
 use Rattle.slots.specs.Slot.{slot_at, is_empty, holds}
 use Rattle.locks.specs.Locks.{lock_at, grab_count, mode_count}
 use Rattle.paths.specs.declared.Place.{Place}
-use Rattle.paths.specs.Path.{path_places, last_of}
+use Rattle.paths.specs.Path.{path_places}
 use Rattle.machine.specs.declared.Stage.{Stage}
 use Rattle.machine.specs.declared.Stage.TheVariants.{Idle, TakeMain, TakeFirst, SeekFirst, TakeSecond, SeekSecond, RoomFirst, RoomSecond, WriteHit, WriteRoom, Pick, DropFirst, DropSecond, DropMain, TakeNext, LookNext, PickNext, DropNext, TakeLow, TakeHigh, Swing, DropLow, DropHigh}
-use Rattle.machine.specs.declared.Lane.{Lane}
 use Rattle.machine.specs.declared.Tail.{Tail}
 use Rattle.machine.specs.declared.Tail.TheVariants.{Keep, TakeOff, Clear}
 use Rattle.machine.specs.declared.Act.{Act}
 use Rattle.machine.specs.declared.Act.TheVariants.{Rest, Try, Release, Look, Store, PickOne, PickFrom, Move}
 use Rattle.machine.specs.declared.Seen.{Seen}
-use Rattle.machine.specs.declared.Moved.{Moved}
-use Rattle.machine.specs.Steps.{Memory, Performed, path_length, act_of}
+use Rattle.machine.specs.Steps.{Memory, Performed}
 
 -- the highest number of 32 bits
 abbrev pub max_number : ℕ

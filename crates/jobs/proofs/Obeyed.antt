@@ -15,7 +15,6 @@ use Rattle.machine.specs.declared.Stepped.{Stepped}
 use Rattle.machine.specs.declared.Stepped.TheVariants.{StepDone, StepBadSizes, StepBadLengths, StepNotStanding, StepNoLane, StepIdle}
 use Rattle.machine.specs.Standing.{Table}
 use Rattle.machine.specs.Desk.{start_answer, start_number, after_start, step_answer, step_numbers, after_step}
-use Rattle.standing.specs.Tables.{table}
 use Rattle.kept.specs.Runs.{Stood}
 use Rattle.desk.specs.Calls.{Calls, StartKeeps, StepKeeps}
 use Rattle.job_records.specs.declared.Record.{Record}
@@ -24,7 +23,7 @@ use Rattle.prints.specs.Put.{Put}
 use Rattle.prints.proofs.Puts.{put_none}
 use Rattle.lines.specs.Lines.{answer_line, refused_line, end_lines}
 use Rattle.jobs.specs.declared.Done.{Done}
-use Rattle.jobs.specs.Job.{goes_on, refused, answered, stepped_line, start_came, step_came, end_text, came_of}
+use Rattle.jobs.specs.Job.{goes_on, answered, stepped_line, start_came, step_came, end_text, came_of}
 use Rattle.jobs.specs.Obeys.{Obeys, Stops}
 use Rattle.jobs.proofs.Answered.{accepted_is, refused_is}
 use Rattle.jobs.proofs.Refusals.{answer_number}

@@ -1,7 +1,7 @@
 -- THEOREM: every table that a job comes to stands, so a record of a job is refused with 6, 7, 8, 10 or 11 and no other number: 2, 3, 4, 5 and 9
 -- can't arise. (1 is the sizes record's, and `zeros_open` says that the opening is accepted.)
 -- Assumes nothing.
-use mathlib.Core.Path.{◌≡◌, refl, sym, subst, subst⁻¹}
+use mathlib.Core.Path.{◌≡◌, refl, sym, subst⁻¹}
 use mathlib.Core.Bool.{Bool, true, false, cond, not}
 use mathlib.Core.List.{List, []}
 use Prim.Native.Nat.{ℕ}

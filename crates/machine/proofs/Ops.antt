@@ -1,9 +1,7 @@
 -- What the tests of an operation say of one another.
 -- Assumes nothing.
 use mathlib.Core.Path.{◌≡◌, refl, sym}
-use mathlib.Core.Logic.{◌≢◌}
 use mathlib.Core.Bool.{Bool, true, false, not, false≢true}
-use Prim.Native.Nat.{◌-◌}
 use borrow.Author.Tests.{not-true}
 use Rattle.locks.specs.declared.Mode.TheVariants.{Writing}
 use Rattle.locks.specs.declared.Part.TheVariants.{NoPart, Holds}

@@ -20,7 +20,7 @@ use Rattle.kept.proofs.Long.{lanes_of}
 use Rattle.kept.proofs.Opening.{opening_is}
 use Rattle.kept.proofs.Starting.{Accepted, start_tested, start_is, idle_lane_lem}
 use Rattle.kept.proofs.Kept.{accepted}
-use Rattle.linear.proofs.Deeds.{idle, waits}
+use Rattle.linear.proofs.Deeds.{waits}
 use Rattle.order.specs.Run.{asked}
 use Rattle.order.proofs.Ghosts.{ghost}
 

@@ -28,7 +28,7 @@ use Rattle.machine.specs.declared.Moved.{Moved}
 use Rattle.machine.specs.Claims.{is_first_pass, is_second_pass, stage_in}
 use Rattle.machine.proofs.Ops.{insert_second}
 use Rattle.machine.proofs.Ways.{Leaves, leaves_hit, leaves_ended, leaves_wrote, leaves_filled, leaves_miss, leaves_picked, leaves_stuck, Swings, swings_again, swings_on, Goes, rests, main_waits, main_held, first_waits, first_held, first_read, first_hit, first_more, first_shared, first_apart, second_waits, second_held, second_read, second_hit, second_more, second_miss, second_room, room_first, room_first_more, room_first_full, room_second, room_second_more, room_pick, room_stuck, wrote_hit, wrote_room, picked_first, drops_on, drops_one, drops_two_lem, drops_main, next_waits, next_held, next_free, next_more, next_full, next_picked, next_walk, next_over, next_again, low_waits, low_shared, low_apart, high_waits, high_held, swings, drops_low, drops_both, drops_high}
-use Rattle.order.specs.History.{seeks, rooms, tries, writes, picks, other, item, after_walk, full_on}
+use Rattle.order.specs.History.{seeks, rooms, tries, picks, other, item, after_walk, full_on}
 use Rattle.order.proofs.Tally.{Tally, more, InPass, InSearch, InWalk, InWrite, IsStuck, OutcomeCounts, Counts}
 
 first_not_second : (op : Op) → is_first_pass op ≡ true → is_second_pass op ≡ false

@@ -2,7 +2,6 @@
 -- Assumes nothing.
 use mathlib.Core.Path.{◌≡◌}
 use mathlib.Core.List.{List, [], ◌∷◌}
-use Prim.Native.Nat.{ℕ}
 use Rattle.places.specs.declared.Sizes.{Sizes}
 use Rattle.machine.specs.Standing.{Table}
 use Rattle.machine.specs.Desk.{opening_number, after_opening}

@@ -1,6 +1,5 @@
 -- `answer_of` gives the numbers of an answer, case by case.
 -- Assumes nothing.
-use borrow.Author.Rules.{rules}
 use Rattle.exports.proofs.Doors.{by_answer}
 use Rattle.exports.proofs.answer_of.Goals as goal
 

@@ -1,6 +1,5 @@
 -- `opened_of` gives number and index of what opening answers; the index is small, so the cast keeps it.
 -- Assumes nothing.
-use borrow.Author.Rules.{rules}
 use Rattle.exports.proofs.Doors.{by_opened, misshapen_low, astray_low, twice_low}
 use Prim.Native.Nat.{◌≤◌}
 use native.Mathlib.Omega.{arith}

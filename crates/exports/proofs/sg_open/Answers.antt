@@ -1,6 +1,5 @@
 -- `sg_open` is the desk's opening, read through its numbers.
 -- Assumes nothing.
-use borrow.Author.Rules.{rules}
 use Rattle.exports.proofs.Doors.{door_low, door_opens}
 use Rattle.exports.proofs.sg_open.Goals as goal
 

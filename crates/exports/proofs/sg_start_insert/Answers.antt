@@ -1,6 +1,5 @@
 -- `sg_start_insert` is the desk's start of that request, read through its number.
 -- Assumes nothing.
-use borrow.Author.Rules.{rules}
 use Rattle.exports.proofs.Doors.{door_starts}
 use Rattle.exports.proofs.sg_start_insert.Goals as goal
 

@@ -1,6 +1,5 @@
 -- `sg_step` is the desk's step, read through its numbers.
 -- Assumes nothing.
-use borrow.Author.Rules.{rules}
 use Rattle.exports.proofs.Doors.{door_steps}
 use Rattle.exports.proofs.sg_step.Goals as goal
 

@@ -1,6 +1,5 @@
 -- `stepped_of` gives the numbers of what a step answers, case by case.
 -- Assumes nothing.
-use borrow.Author.Rules.{rules}
 use Rattle.exports.proofs.Doors.{by_stepped}
 use Rattle.exports.proofs.stepped_of.Goals as goal
 

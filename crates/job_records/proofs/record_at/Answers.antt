@@ -1,7 +1,6 @@
 -- `record_at` is its definition: no byte, a whole record, or one that is cut short or unknown.
 -- Assumes nothing.
 use native.Mathlib.Omega.{arith}
-use borrow.Author.Rules.{rules}
 use Rattle.job_records.proofs.Whole.{no_byte, whole, cut, in_front, end_in}
 use Rattle.job_records.proofs.record_at.Goals as goal
 

@@ -1,6 +1,5 @@
 -- `sizes_at` is its definition, byte by byte.
 -- Assumes nothing.
-use borrow.Author.Rules.{rules}
 use Rattle.job_records.proofs.Bodies.{sizes_is}
 use Rattle.job_records.proofs.sizes_at.Goals as goal
 

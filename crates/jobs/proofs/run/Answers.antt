@@ -1,7 +1,6 @@
 -- `run` puts what the job prints, by its length and its first record; a print has room in the bytes that are lent.
 -- Assumes nothing.
 use native.Mathlib.Omega.{arith}
-use borrow.Author.Rules.{rules}
 use Rattle.jobs.proofs.Room.{printed}
 use Rattle.jobs.proofs.Begins.{too_long, first_sizes, first_start, first_step, first_end, first_bad, long_enough, in_job}
 use Rattle.jobs.proofs.run.Goals as goal

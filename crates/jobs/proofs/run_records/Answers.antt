@@ -1,14 +1,9 @@
 -- `run_records` puts what is printed from an offset on: what is printed so far and what the records left print are the whole. Each record
 -- that goes on lies further on in the job.
 -- Assumes nothing.
-use mathlib.Core.Path.{◌≡◌, refl}
-use lib.ListN.{length}
-use Prim.Native.Nat.{◌-◌}
-use borrow.Author.Rules.{rules}
+use mathlib.Core.Path.{refl}
 use native.Mathlib.Omega.{arith}
-use Rattle.jobs.proofs.Turns.{Left, left_start, left_stops, left_goes, left_less}
-use Rattle.jobs.specs.Job.{print_from}
-use Rattle.standing.specs.Tables.{table}
+use Rattle.jobs.proofs.Turns.{left_start, left_stops, left_goes, left_less}
 use Rattle.jobs.proofs.run_records.Goals as goal
 
 pub loop-z-init : goal.loop-z-init

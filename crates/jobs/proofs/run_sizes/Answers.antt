@@ -2,7 +2,6 @@
 -- Assumes nothing.
 use mathlib.Core.Path.{sym, ◌∙◌}
 use native.Mathlib.Omega.{arith}
-use borrow.Author.Rules.{rules}
 use Rattle.jobs.proofs.Begins.{sizes_good, sizes_bad}
 use Rattle.jobs.proofs.run_sizes.Goals as goal
 

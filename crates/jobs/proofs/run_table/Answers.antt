@@ -3,7 +3,6 @@
 use lib.Seq.{length-take-le}
 use mathlib.Core.Path.{sym}
 use native.Mathlib.Omega.{arith}
-use borrow.Author.Rules.{rules}
 use Rattle.jobs.proofs.Begins.{lent_stood, table_joined}
 use Rattle.lines.proofs.Lengths.{sizes_most}
 use Rattle.places.proofs.Limits.{ok_fits, slots_few}

@@ -1,6 +1,5 @@
 -- `put_answer` puts the line of its answer, one law for each answer.
 -- Assumes nothing.
-use borrow.Author.Rules.{rules}
 use Rattle.lines.proofs.Joined.{on_goes, on_none, on_value, on_deleted, on_yes, on_searched, on_walked}
 use Rattle.lines.proofs.put_answer.Goals as goal
 

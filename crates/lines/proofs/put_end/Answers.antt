@@ -1,7 +1,6 @@
 -- `put_end` puts the slots and the last line; the slots leave room for it.
 -- Assumes nothing.
 use native.Mathlib.Omega.{arith}
-use borrow.Author.Rules.{rules}
 use Rattle.lines.proofs.Joined.{end_joined}
 use Rattle.lines.proofs.Lengths.{slots_most}
 use Rattle.lines.proofs.put_end.Goals as goal

@@ -1,6 +1,5 @@
 -- `put_lane` puts the pieces of its line one after the other.
 -- Assumes nothing.
-use borrow.Author.Rules.{rules}
 use Rattle.lines.proofs.Joined.{lane_joined}
 use Rattle.lines.proofs.put_lane.Goals as goal
 

@@ -1,7 +1,6 @@
 -- `put_pair` puts the pieces of its line one after the other; place and stroke are short enough for what follows.
 -- Assumes nothing.
 use native.Mathlib.Omega.{arith}
-use borrow.Author.Rules.{rules}
 use Rattle.lines.proofs.Lengths.{place_most}
 use Rattle.lines.proofs.Joined.{pair_joined}
 use Rattle.prints.proofs.Strokes.{stroke_length}

@@ -1,6 +1,5 @@
 -- `put_place` puts its pieces one after the other.
 -- Assumes nothing.
-use borrow.Author.Rules.{rules}
 use Rattle.lines.proofs.Joined.{place_joined}
 use Rattle.lines.proofs.put_place.Goals as goal
 

@@ -1,6 +1,5 @@
 -- `put_refusal` puts the pieces of its line one after the other.
 -- Assumes nothing.
-use borrow.Author.Rules.{rules}
 use Rattle.lines.proofs.Joined.{refusal_joined}
 use Rattle.lines.proofs.put_refusal.Goals as goal
 

@@ -1,6 +1,5 @@
 -- `put_sizes` puts the pieces of its line one after the other.
 -- Assumes nothing.
-use borrow.Author.Rules.{rules}
 use Rattle.lines.proofs.Joined.{sizes_joined}
 use Rattle.lines.proofs.put_sizes.Goals as goal
 

@@ -1,6 +1,5 @@
 -- `put_slot` puts the line of a full slot, and nothing for an empty one.
 -- Assumes nothing.
-use borrow.Author.Rules.{rules}
 use Rattle.lines.proofs.Full.{full_slot_lem, no_slot}
 use Rattle.lines.proofs.put_slot.Goals as goal
 

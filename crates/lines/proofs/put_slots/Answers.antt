@@ -1,12 +1,9 @@
 -- `put_slots` puts the lines of all full slots: those so far and those of the slots that are left are the whole.
 -- Assumes nothing.
-use Prim.Native.Nat.{◌+◌, ◌-◌, ◌*◌, ◌≤◌}
 use native.Mathlib.Omega.{arith}
-use borrow.Author.Rules.{rules}
 use Rattle.lines.proofs.Full.{lines_start, lines_more, lines_end}
 use Rattle.lines.proofs.Lengths.{slot_most}
-use Rattle.lines.specs.Lines.{slot_lines_from, slot_lines}
-use Rattle.prints.proofs.Puts.{Amid, amid_length}
+use Rattle.prints.proofs.Puts.{amid_length}
 use Rattle.places.proofs.Limits.{slots_few}
 use Rattle.lines.proofs.put_slots.Goals as goal
 

@@ -1,12 +1,7 @@
 -- `put_slots` puts the lines of all full slots: those so far and those of the slots that are left are the whole.
 use Prim.Native.Nat.{◌+◌, ◌-◌, ◌*◌, ◌≤◌}
-use native.Mathlib.Omega.{arith}
-use borrow.Author.Rules.{rules}
-use Rattle.lines.proofs.Full.{lines_start, lines_more, lines_end}
-use Rattle.lines.proofs.Lengths.{slot_most}
 use Rattle.lines.specs.Lines.{slot_lines_from, slot_lines}
-use Rattle.prints.proofs.Puts.{Amid, amid_length}
-use Rattle.places.proofs.Limits.{slots_few}
+use Rattle.prints.proofs.Puts.{Amid}
 use Rattle.lines.proofs.put_slots.Given as goal
 
 abbrev pub invariant-loop-i : goal.invariant-loop-i

@@ -1,6 +1,5 @@
 -- `put_value` puts the pieces of its line one after the other.
 -- Assumes nothing.
-use borrow.Author.Rules.{rules}
 use Rattle.lines.proofs.Joined.{value_joined}
 use Rattle.lines.proofs.put_value.Goals as goal
 

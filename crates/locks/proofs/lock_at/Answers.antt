@@ -1,7 +1,6 @@
 -- `lock_at` is its definition: two reads are one record.
 -- Assumes nothing.
 use native.Mathlib.Nat.{add-zero}
-use borrow.Author.Rules.{rules}
 use Rattle.lists.specs.Records.{cell}
 use Rattle.locks.specs.Locks.{lock_at}
 use Rattle.locks.proofs.lock_at.Goals as goal

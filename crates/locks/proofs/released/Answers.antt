@@ -1,6 +1,5 @@
 -- `released` is its definition, by the mode; what a reader subtracts is in the count.
 -- Assumes nothing.
-use borrow.Author.Rules.{rules}
 use Rattle.locks.proofs.Turns.{read_counted, read_released, write_released}
 use Rattle.locks.proofs.released.Goals as goal
 

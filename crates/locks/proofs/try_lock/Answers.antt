@@ -1,6 +1,5 @@
 -- `try_lock` is its definition, by the ways its grab and its tests go; what R4 subtracts is in the count.
 -- Assumes nothing.
-use borrow.Author.Rules.{rules}
 use Rattle.locks.proofs.Turns.{back_counted, try_note, try_add, try_stale, try_clear, try_set, try_back, try_flag, try_stay, try_last, try_readers}
 use Rattle.locks.proofs.try_lock.Goals as goal
 

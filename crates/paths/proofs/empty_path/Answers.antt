@@ -1,9 +1,8 @@
 -- `empty_path` stores a list of zeros: after i stores the first i numbers are 0 and the rest are as they were.
 -- Assumes nothing.
-use mathlib.Core.Path.{◌≡◌, refl}
-use Prim.Native.Nat.{◌≤◌, ◌-◌}
+use mathlib.Core.Path.{refl}
 use native.Mathlib.Omega.{arith}
-use lib.ListN.{length, length-set}
+use lib.ListN.{length-set}
 use Rattle.paths.proofs.Turns.{zeros_to, zeros_more, zeros_end}
 use Rattle.paths.proofs.empty_path.Goals as goal
 

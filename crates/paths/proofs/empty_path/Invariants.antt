@@ -1,9 +1,8 @@
 -- `empty_path` stores a list of zeros: after i stores the first i numbers are 0 and the rest are as they were.
-use mathlib.Core.Path.{◌≡◌, refl}
+use mathlib.Core.Path.{◌≡◌}
 use Prim.Native.Nat.{◌≤◌, ◌-◌}
-use native.Mathlib.Omega.{arith}
-use lib.ListN.{length, length-set}
-use Rattle.paths.proofs.Turns.{zeros_to, zeros_more, zeros_end}
+use lib.ListN.{length}
+use Rattle.paths.proofs.Turns.{zeros_to}
 use Rattle.paths.proofs.empty_path.Given as goal
 
 abbrev pub invariant-loop-i : goal.invariant-loop-i

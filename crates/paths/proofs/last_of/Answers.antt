@@ -1,6 +1,5 @@
 -- `last_of` is its definition, by the two ways its test goes.
 -- Assumes nothing.
-use borrow.Author.Rules.{rules}
 use Rattle.paths.proofs.Turns.{last_of_none, last_of_some}
 use Rattle.paths.proofs.last_of.Goals as goal
 

@@ -1,6 +1,5 @@
 -- `other_row` is its definition, by the two ways its test goes.
 -- Assumes nothing.
-use borrow.Author.Rules.{rules}
 use Rattle.paths.proofs.Turns.{other_two, other_one}
 use Rattle.paths.proofs.other_row.Goals as goal
 

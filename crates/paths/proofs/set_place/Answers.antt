@@ -3,7 +3,6 @@
 use native.Mathlib.Numerals.{add-one, add-two}
 use native.Mathlib.Omega.{arith}
 use lib.ListN.{length-set}
-use borrow.Author.Rules.{rules}
 use Rattle.lists.specs.Records.{put}
 use Rattle.paths.specs.Path.{with_place}
 use Rattle.paths.proofs.set_place.Goals as goal

@@ -1,7 +1,6 @@
 -- `home_one` is its definition.
 -- Assumes nothing.
 use mathlib.Core.Path.{refl}
-use borrow.Author.Rules.{rules}
 use Rattle.places.specs.Table.{home_one}
 use Rattle.places.proofs.home_one.Goals as goal
 

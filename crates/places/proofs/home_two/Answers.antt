@@ -1,7 +1,6 @@
 -- `home_two` is its definition; its sums stay below twice the rows.
 -- Assumes nothing.
 use native.Mathlib.Omega.{arith}
-use borrow.Author.Rules.{rules}
 use Rattle.places.proofs.Homes.{homes, step_few}
 use Rattle.places.specs.Table.{home_two}
 use Rattle.places.proofs.home_two.Goals as goal

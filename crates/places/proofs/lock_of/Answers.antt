@@ -1,7 +1,6 @@
 -- `lock_of` is its definition.
 -- Assumes nothing.
 use mathlib.Core.Path.{refl}
-use borrow.Author.Rules.{rules}
 use Rattle.places.specs.Table.{lock_of}
 use Rattle.places.proofs.lock_of.Goals as goal
 

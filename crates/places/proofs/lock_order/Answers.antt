@@ -1,6 +1,5 @@
 -- `lock_order` is its definition, by the two ways its test goes.
 -- Assumes nothing.
-use borrow.Author.Rules.{rules}
 use Rattle.places.proofs.Locking.{order_below, order_not_below}
 use Rattle.places.proofs.lock_order.Goals as goal
 

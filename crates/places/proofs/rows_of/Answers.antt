@@ -1,6 +1,5 @@
 -- `rows_of` is its definition, from those of what it calls.
 -- Assumes nothing.
-use borrow.Author.Rules.{rules}
 use Rattle.places.proofs.rows_of.Goals as goal
 
 pub returns : goal.returns

@@ -1,6 +1,5 @@
 -- `sizes_ok` is its definition, from the four limits.
 -- Assumes nothing.
-use borrow.Author.Rules.{rules}
 use Rattle.places.specs.Table.{sizes_ok}
 use Rattle.places.proofs.sizes_ok.Goals as goal
 

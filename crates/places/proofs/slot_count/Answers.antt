@@ -2,7 +2,6 @@
 -- Assumes nothing.
 use mathlib.Core.Path.{refl}
 use native.Mathlib.Omega.{arith}
-use borrow.Author.Rules.{rules}
 use Rattle.places.proofs.Limits.{slots_few}
 use Rattle.places.specs.Table.{slot_count}
 use Rattle.places.proofs.slot_count.Goals as goal

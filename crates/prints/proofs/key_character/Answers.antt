@@ -1,6 +1,5 @@
 -- `key_character` is the letter at the bit number, or the dot: the constant array is the row of letters.
 -- Assumes nothing.
-use borrow.Author.Rules.{rules}
 use Rattle.prints.specs.Text.{letters}
 use Rattle.prints.proofs.key_character.Goals as goal
 

@@ -1,7 +1,6 @@
 -- `put_labelled` puts the word and then the number, which has at most ten digits.
 -- Assumes nothing.
 use native.Mathlib.Omega.{arith}
-use borrow.Author.Rules.{rules}
 use Rattle.prints.proofs.Numbers.{decimal_most, labelled}
 use Rattle.prints.proofs.put_labelled.Goals as goal
 

@@ -1,10 +1,7 @@
 -- `put_stroke` puts the stroke: the characters so far and those of the bits that are left are the whole stroke.
-use mathlib.Core.Path.{refl}
 use lib.ListN.{drop}
 use Prim.Native.Nat.{◌+◌, ◌-◌, ◌≤◌}
-use native.Mathlib.Omega.{arith}
-use Rattle.prints.proofs.Strokes.{stroke_end, stroke_more}
-use Rattle.prints.proofs.Puts.{amid_first, Amid, amid_length}
+use Rattle.prints.proofs.Puts.{Amid}
 use Rattle.prints.specs.Text.{letters, stroke_from, stroke_of}
 use Rattle.prints.proofs.put_stroke.Given as goal
 

@@ -1,9 +1,7 @@
 -- `put_text` puts the text: what is copied so far and what is left of the text are the whole text.
 -- Assumes nothing.
-use lib.ListN.{length, drop}
-use Prim.Native.Nat.{◌+◌, ◌-◌, ◌≤◌}
 use native.Mathlib.Omega.{arith}
-use Rattle.prints.proofs.Puts.{amid_first, copy_end, Amid, amid_length, copy_more}
+use Rattle.prints.proofs.Puts.{amid_first, copy_end, amid_length, copy_more}
 use Rattle.prints.proofs.put_text.Goals as goal
 
 pub loop-i-init : goal.loop-i-init

@@ -1,8 +1,7 @@
 -- `put_text` puts the text: what is copied so far and what is left of the text are the whole text.
 use lib.ListN.{length, drop}
 use Prim.Native.Nat.{◌+◌, ◌-◌, ◌≤◌}
-use native.Mathlib.Omega.{arith}
-use Rattle.prints.proofs.Puts.{amid_first, copy_end, Amid, amid_length, copy_more}
+use Rattle.prints.proofs.Puts.{Amid}
 use Rattle.prints.proofs.put_text.Given as goal
 
 abbrev pub invariant-loop-i : goal.invariant-loop-i

@@ -1,6 +1,5 @@
 -- `ending_in` is its definition: by what the ending is.
 -- Assumes nothing.
-use borrow.Author.Rules.{rules}
 use Rattle.ranges.proofs.Tested.{by_ending, alone}
 use Rattle.ranges.proofs.ending_in.Goals as goal
 

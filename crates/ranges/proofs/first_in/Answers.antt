@@ -1,7 +1,6 @@
 -- `first_in` is its definition: its tests are those of the list, in that order.
 -- Assumes nothing.
 use mathlib.Core.Bool.{and-true}
-use borrow.Author.Rules.{rules}
 use Rattle.ranges.proofs.first_in.Goals as goal
 
 pub returns : goal.returns

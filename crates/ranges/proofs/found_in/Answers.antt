@@ -1,6 +1,5 @@
 -- `found_in` is its definition: by what the attempt found.
 -- Assumes nothing.
-use borrow.Author.Rules.{rules}
 use Rattle.ranges.proofs.Tested.{by_find}
 use Rattle.ranges.proofs.found_in.Goals as goal
 

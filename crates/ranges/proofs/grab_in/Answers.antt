@@ -1,6 +1,5 @@
 -- `grab_in` is its definition: by what the mode is.
 -- Assumes nothing.
-use borrow.Author.Rules.{rules}
 use Rattle.ranges.proofs.Tested.{by_mode}
 use Rattle.ranges.proofs.grab_in.Goals as goal
 

@@ -1,6 +1,5 @@
 -- `is_insert` is its definition: a test of the code of the operation.
 -- Assumes nothing.
-use borrow.Author.Rules.{rules}
 use Rattle.ranges.proofs.is_insert.Goals as goal
 
 pub returns : goal.returns

@@ -1,6 +1,5 @@
 -- `is_read` is its definition: a test of the code of the operation.
 -- Assumes nothing.
-use borrow.Author.Rules.{rules}
 use Rattle.ranges.proofs.is_read.Goals as goal
 
 pub returns : goal.returns

@@ -1,6 +1,5 @@
 -- `is_second_pass` is its definition: a test of the code of the operation.
 -- Assumes nothing.
-use borrow.Author.Rules.{rules}
 use Rattle.ranges.proofs.is_second_pass.Goals as goal
 
 pub returns : goal.returns

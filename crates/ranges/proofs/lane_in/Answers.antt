@@ -1,6 +1,5 @@
 -- `lane_in` is its definition: its tests are those of the list, in that order.
 -- Assumes nothing.
-use borrow.Author.Rules.{rules}
 use Rattle.ranges.proofs.lane_in.Goals as goal
 
 pub returns : goal.returns

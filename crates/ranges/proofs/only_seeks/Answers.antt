@@ -1,6 +1,5 @@
 -- `only_seeks` is its definition: a test of the code of the operation.
 -- Assumes nothing.
-use borrow.Author.Rules.{rules}
 use Rattle.ranges.proofs.only_seeks.Goals as goal
 
 pub returns : goal.returns

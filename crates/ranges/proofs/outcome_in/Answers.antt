@@ -1,6 +1,5 @@
 -- `outcome_in` is its definition: by what the outcome is.
 -- Assumes nothing.
-use borrow.Author.Rules.{rules}
 use Rattle.ranges.proofs.Tested.{by_outcome, alone}
 use Rattle.ranges.proofs.outcome_in.Goals as goal
 

@@ -1,6 +1,5 @@
 -- `reads_in` is its definition: by what the grab is.
 -- Assumes nothing.
-use borrow.Author.Rules.{rules}
 use Rattle.ranges.proofs.reads_in.Goals as goal
 
 pub returns-in-R2 : goal.returns-in-R2

@@ -1,6 +1,5 @@
 -- `stage_in` is its definition: by what the stage is.
 -- Assumes nothing.
-use borrow.Author.Rules.{rules}
 use Rattle.ranges.proofs.Tested.{by_stage_in}
 use Rattle.ranges.proofs.stage_in.Goals as goal
 

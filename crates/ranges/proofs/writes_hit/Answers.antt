@@ -1,6 +1,5 @@
 -- `writes_hit` is its definition: a test of the code of the operation.
 -- Assumes nothing.
-use borrow.Author.Rules.{rules}
 use Rattle.ranges.proofs.writes_hit.Goals as goal
 
 pub returns : goal.returns

@@ -1,6 +1,5 @@
 -- `decodes` is its definition: twelve comparisons are the fourteen of the definition, since a key and a value are read back as they are.
 -- Assumes nothing.
-use borrow.Author.Rules.{rules}
 use Rattle.records.specs.StageWords.{as_words}
 use Rattle.records.proofs.Coded.{decoded}
 use Rattle.records.proofs.decodes.Goals as goal

@@ -1,6 +1,5 @@
 -- `ending_words` is its definition: by what the ending is.
 -- Assumes nothing.
-use borrow.Author.Rules.{rules}
 use Rattle.records.proofs.Coded.{by_end}
 use Rattle.records.proofs.ending_words.Goals as goal
 

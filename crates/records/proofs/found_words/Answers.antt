@@ -1,6 +1,5 @@
 -- `found_words` is its definition: by what the attempt found.
 -- Assumes nothing.
-use borrow.Author.Rules.{rules}
 use Rattle.records.proofs.Coded.{by_found}
 use Rattle.records.proofs.found_words.Goals as goal
 

@@ -2,7 +2,6 @@
 -- Assumes nothing.
 use mathlib.Core.Path.{refl}
 use Prim.Native.Nat.{ℕ}
-use borrow.Author.Rules.{rules}
 use Rattle.locks.specs.declared.Grab.TheVariants.{R1}
 use Rattle.machine.specs.Lane.{grab_from}
 use Rattle.records.proofs.Coded.{past}

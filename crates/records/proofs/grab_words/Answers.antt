@@ -1,6 +1,5 @@
 -- `grab_words` is its definition: from those of the codes it calls.
 -- Assumes nothing.
-use borrow.Author.Rules.{rules}
 use Rattle.records.proofs.grab_words.Goals as goal
 
 pub returns : goal.returns

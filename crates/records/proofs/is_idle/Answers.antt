@@ -1,6 +1,5 @@
 -- `is_idle` is its definition: a test of the code of the operation.
 -- Assumes nothing.
-use borrow.Author.Rules.{rules}
 use Rattle.records.proofs.is_idle.Goals as goal
 
 pub returns : goal.returns

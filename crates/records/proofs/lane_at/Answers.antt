@@ -1,6 +1,5 @@
 -- `lane_at` is its definition: the stage, the operation and two reads are one record.
 -- Assumes nothing.
-use borrow.Author.Rules.{rules}
 use Rattle.records.proofs.Coded.{lane_read}
 use Rattle.records.proofs.lane_at.Goals as goal
 

@@ -1,7 +1,6 @@
 -- `op_of` is its definition: each code in the table, and what the table falls back on past it.
 -- Assumes nothing.
 use mathlib.Core.Path.{refl}
-use borrow.Author.Rules.{rules}
 use Rattle.machine.specs.declared.Op.TheVariants.{NoOp}
 use Rattle.machine.specs.Lane.{op_of}
 use Rattle.records.proofs.Coded.{past}

@@ -1,6 +1,5 @@
 -- `outcome_words` is its definition: by what the outcome is.
 -- Assumes nothing.
-use borrow.Author.Rules.{rules}
 use Rattle.records.proofs.Coded.{hit_words, wrote_words, by_outcome}
 use Rattle.records.proofs.outcome_words.Goals as goal
 

@@ -2,7 +2,6 @@
 -- Assumes nothing.
 use native.Mathlib.Omega.{arith}
 use lib.ListN.{length-set}
-use borrow.Author.Rules.{rules}
 use Rattle.records.specs.StageWords.{as_words}
 use Rattle.records.proofs.Coded.{lane_stored}
 use Rattle.records.proofs.set_lane.Goals as goal

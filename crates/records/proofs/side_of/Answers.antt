@@ -1,7 +1,6 @@
 -- `side_of` is its definition: each code in the table, and what the table falls back on past it.
 -- Assumes nothing.
 use mathlib.Core.Path.{refl}
-use borrow.Author.Rules.{rules}
 use Rattle.machine.specs.declared.Side.TheVariants.{First}
 use Rattle.machine.specs.Lane.{side_of}
 use Rattle.records.proofs.Coded.{past}

@@ -1,6 +1,5 @@
 -- `side_words` is its definition: from those of the codes it calls.
 -- Assumes nothing.
-use borrow.Author.Rules.{rules}
 use Rattle.records.proofs.side_words.Goals as goal
 
 pub returns : goal.returns

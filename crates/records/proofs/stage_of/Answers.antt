@@ -2,7 +2,6 @@
 -- Assumes nothing.
 use mathlib.Core.Path.{refl}
 use Prim.Native.Nat.{ℕ}
-use borrow.Author.Rules.{rules}
 use Rattle.machine.specs.declared.Stage.TheVariants.{Idle}
 use Rattle.machine.specs.Lane.{stage_of}
 use Rattle.records.specs.StageWords.{as_words}

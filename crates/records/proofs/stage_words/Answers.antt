@@ -1,6 +1,5 @@
 -- `stage_words` is its definition: by what the stage is.
 -- Assumes nothing.
-use borrow.Author.Rules.{rules}
 use Rattle.records.proofs.Coded.{by_stage}
 use Rattle.records.proofs.stage_words.Goals as goal
 

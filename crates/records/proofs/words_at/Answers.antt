@@ -1,6 +1,5 @@
 -- `words_at` is its definition: eleven reads are one record.
 -- Assumes nothing.
-use borrow.Author.Rules.{rules}
 use Rattle.records.proofs.Coded.{words_read}
 use Rattle.records.proofs.words_at.Goals as goal
 

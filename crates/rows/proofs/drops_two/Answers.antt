@@ -1,6 +1,5 @@
 -- `drops_two` is its definition, by the outcome; a hit and its write are alike.
 -- Assumes nothing.
-use borrow.Author.Rules.{rules}
 use Rattle.rows.proofs.Rowing.{drops_hit, drops_wrote}
 use Rattle.rows.proofs.drops_two.Goals as goal
 

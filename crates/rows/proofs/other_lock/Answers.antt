@@ -1,6 +1,5 @@
 -- `other_lock` is its definition, from those of what it calls.
 -- Assumes nothing.
-use borrow.Author.Rules.{rules}
 use Rattle.rows.proofs.other_lock.Goals as goal
 
 pub returns : goal.returns

@@ -1,6 +1,5 @@
 -- `row_on` is its definition, by the side.
 -- Assumes nothing.
-use borrow.Author.Rules.{rules}
 use Rattle.rows.proofs.Rowing.{row_first, row_second}
 use Rattle.rows.proofs.row_on.Goals as goal
 

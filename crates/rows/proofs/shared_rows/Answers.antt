@@ -1,6 +1,5 @@
 -- `shared_rows` is its definition, from that of the key's rows.
 -- Assumes nothing.
-use borrow.Author.Rules.{rules}
 use Rattle.rows.proofs.shared_rows.Goals as goal
 
 pub returns : goal.returns

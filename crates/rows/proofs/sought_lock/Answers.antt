@@ -1,6 +1,5 @@
 -- `sought_lock` is the lock of the row looked through.
 -- Assumes nothing.
-use borrow.Author.Rules.{rules}
 use Rattle.rows.proofs.sought_lock.Goals as goal
 
 pub returns : goal.returns

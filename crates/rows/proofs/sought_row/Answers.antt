@@ -1,6 +1,5 @@
 -- `sought_row` is its definition: by what the attempt found.
 -- Assumes nothing.
-use borrow.Author.Rules.{rules}
 use Rattle.rows.proofs.Rowing.{sought_room}
 use Rattle.rows.proofs.sought_row.Goals as goal
 

@@ -1,14 +1,8 @@
 -- `check` finds what opening finds. Over slots: none passed so far breaks a rule. Over lower slots: those still to look at decide.
 -- Assumes nothing.
-use mathlib.Core.Logic.{⊎_elim}
-use mathlib.Core.Bool.{false}
 use mathlib.Core.Path.{◌≡◌, refl}
-use Prim.Native.Nat.{◌≤◌, ◌-◌}
 use native.Mathlib.Omega.{arith}
-use borrow.Author.Rules.{rules}
 use Rattle.slots.proofs.Turns.{lower_miss, stop_sound, stop_shape, stop_astray, stop_twice, pass_empty, pass_full}
-use Rattle.slots.specs.Sound.{stands_below, is_faulty}
-use Rattle.places.specs.Table.{slot_count}
 use Rattle.lists.specs.Below.{any_below}
 use Rattle.slots.proofs.check.Goals as goal
 use Rattle.slots.proofs.check.Goals.{then-is_full+else-is_astray+else-lower-test, else-is_full}

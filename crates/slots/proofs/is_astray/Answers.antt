@@ -1,6 +1,5 @@
 -- `is_astray` is its definition, from the two home rows.
 -- Assumes nothing.
-use borrow.Author.Rules.{rules}
 use Rattle.places.specs.Table.{row_at}
 use Rattle.slots.specs.Sound.{strays}
 use Rattle.slots.proofs.is_astray.Goals as goal

@@ -1,7 +1,6 @@
 -- `look_for_room` looks at the slot of that row and column, which lies within the slots.
 -- Assumes nothing.
 use native.Mathlib.Omega.{arith}
-use borrow.Author.Rules.{rules}
 use Rattle.places.proofs.Limits.{slot_in_lem}
 use Rattle.slots.proofs.look_for_room.Goals as goal
 

@@ -3,7 +3,6 @@
 use native.Mathlib.Numerals.{add-one, add-two}
 use native.Mathlib.Omega.{arith}
 use lib.ListN.{length-set}
-use borrow.Author.Rules.{rules}
 use Rattle.lists.specs.Records.{put}
 use Rattle.slots.specs.Slot.{with_slot}
 use Rattle.slots.proofs.set_slot.Goals as goal

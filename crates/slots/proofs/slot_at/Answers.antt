@@ -1,7 +1,6 @@
 -- `slot_at` is its definition: three reads are one record.
 -- Assumes nothing.
 use native.Mathlib.Nat.{add-zero}
-use borrow.Author.Rules.{rules}
 use Rattle.lists.specs.Records.{cell}
 use Rattle.slots.specs.Slot.{slot_at}
 use Rattle.slots.proofs.slot_at.Goals as goal

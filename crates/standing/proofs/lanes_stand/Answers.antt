@@ -1,13 +1,8 @@
 -- `lanes_stand` is its definition: the lanes passed so far stand.
 -- Assumes nothing.
-use mathlib.Core.Bool.{true}
-use mathlib.Core.Path.{◌≡◌, refl}
-use Prim.Native.Nat.{◌≤◌, ◌-◌}
+use mathlib.Core.Path.{refl}
 use native.Mathlib.Omega.{arith}
-use borrow.Author.Rules.{rules}
 use Rattle.lists.specs.Below.{all_below}
-use Rattle.machine.specs.Standing.{lane_stands}
-use Rattle.standing.specs.Partial.{lanes_table}
 use Rattle.standing.proofs.Turns.{all_stop, all_pass, all_end}
 use Rattle.standing.proofs.lanes_stand.Goals as goal
 

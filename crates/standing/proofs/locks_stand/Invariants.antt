@@ -1,13 +1,10 @@
 -- `locks_stand` is its definition: the locks passed so far stand.
 use mathlib.Core.Bool.{true}
-use mathlib.Core.Path.{◌≡◌, refl}
+use mathlib.Core.Path.{◌≡◌}
 use Prim.Native.Nat.{◌≤◌, ◌-◌}
-use native.Mathlib.Omega.{arith}
-use borrow.Author.Rules.{rules}
 use Rattle.lists.specs.Below.{all_below}
 use Rattle.machine.specs.Standing.{lock_stands}
 use Rattle.standing.specs.Partial.{locks_table}
-use Rattle.standing.proofs.Turns.{all_stop, all_pass, all_end}
 use Rattle.standing.proofs.locks_stand.Given as goal
 
 abbrev pub invariant-loop-k : goal.invariant-loop-k

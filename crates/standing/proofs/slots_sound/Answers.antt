@@ -1,6 +1,5 @@
 -- `slots_sound` says whether the slot check finds nothing, by what it finds.
 -- Assumes nothing.
-use borrow.Author.Rules.{rules}
 use Rattle.standing.proofs.Whole.{found_sound, found_misshapen, found_astray, found_twice}
 use Rattle.standing.proofs.slots_sound.Goals as goal
 

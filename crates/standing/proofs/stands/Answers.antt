@@ -1,6 +1,5 @@
 -- `stands` is the standing check: an early false is that of a list of tests, and the last two tests decide.
 -- Assumes nothing.
-use borrow.Author.Rules.{rules}
 use Rattle.standing.proofs.Whole.{whole_unsound, whole_lanes, whole_stands}
 use Rattle.standing.proofs.stands.Goals as goal
 

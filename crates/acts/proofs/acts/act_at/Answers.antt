@@ -1,6 +1,5 @@
 -- `act_at` is its definition, by the stage: each part of the act is the definition's. A walk that drops has a place to take off.
 -- Assumes nothing.
-use borrow.Author.Rules.{rules}
 use Rattle.acts.proofs.Acting.{act_at_lem, low_some, high_some}
 use Rattle.machine.specs.Steps.{act_at}
 use Rattle.acts.proofs.acts.act_at.Goals as goal

@@ -1,6 +1,5 @@
 -- `low_tail` is its definition, by whether the swing's rows have one lock.
 -- Assumes nothing.
-use borrow.Author.Rules.{rules}
 use Rattle.rows.proofs.Choices.{one_lock, two_locks}
 use Rattle.acts.proofs.acts.low_tail.Goals as goal
 

@@ -1,6 +1,5 @@
 -- `path_length` is its definition, by the stage.
 -- Assumes nothing.
-use borrow.Author.Rules.{rules}
 use Rattle.acts.proofs.Acting.{places_at}
 use Rattle.acts.proofs.acts.path_length.Goals as goal
 

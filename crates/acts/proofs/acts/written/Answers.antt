@@ -1,6 +1,5 @@
 -- `written` is its definition, by the operation.
 -- Assumes nothing.
-use borrow.Author.Rules.{rules}
 use Rattle.acts.proofs.Acting.{written_full, written_again}
 use Rattle.acts.proofs.acts.written.Goals as goal
 

@@ -1,6 +1,5 @@
 -- `can_move` is its definition, from the two looks.
 -- Assumes nothing.
-use borrow.Author.Rules.{rules}
 use Rattle.acts.specs.Fitting.{can_move}
 use Rattle.acts.proofs.doing.can_move.Goals as goal
 

@@ -1,6 +1,5 @@
 -- `do_look` sees the slot of that row and column, which lies within the slots.
 -- Assumes nothing.
-use borrow.Author.Rules.{rules}
 use Rattle.acts.proofs.Performing.{slot_within}
 use Rattle.acts.proofs.doing.do_look.Goals as goal
 

@@ -1,6 +1,5 @@
 -- `do_store` stores the slot of that row and column, which lies within the slots.
 -- Assumes nothing.
-use borrow.Author.Rules.{rules}
 use Rattle.acts.proofs.Performing.{slot_within}
 use Rattle.acts.proofs.doing.do_store.Goals as goal
 

@@ -1,6 +1,5 @@
 -- `do_try` is one step of taking that lock.
 -- Assumes nothing.
-use borrow.Author.Rules.{rules}
 use Rattle.acts.proofs.doing.do_try.Goals as goal
 
 pub returns : goal.returns

@@ -1,6 +1,5 @@
 -- `perform` is its definition, by the act: each act is done by its function, and what it names is there.
 -- Assumes nothing.
-use borrow.Author.Rules.{rules}
 use Rattle.machine.specs.Steps.{perform}
 use Rattle.acts.proofs.Performing.{try_fits, release_fits, look_fits, store_fits, one_fits, from_fits, move_fits, performs_at}
 use Rattle.acts.proofs.doing.perform.Goals as goal

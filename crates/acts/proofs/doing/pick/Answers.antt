@@ -1,6 +1,5 @@
 -- `pick` notes the place and its key; the slot lies within the slots.
 -- Assumes nothing.
-use borrow.Author.Rules.{rules}
 use Rattle.acts.proofs.Performing.{slot_within}
 use Rattle.acts.proofs.doing.pick.Goals as goal
 

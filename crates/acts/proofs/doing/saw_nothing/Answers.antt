@@ -1,6 +1,5 @@
 -- `saw_nothing` is its definition, from that of the empty slot.
 -- Assumes nothing.
-use borrow.Author.Rules.{rules}
 use Rattle.acts.proofs.doing.saw_nothing.Goals as goal
 
 pub returns : goal.returns

@@ -1,6 +1,5 @@
 -- `trim` is its definition, by the tail; a place that leaves stands in the store.
 -- Assumes nothing.
-use borrow.Author.Rules.{rules}
 use Rattle.acts.proofs.Performing.{trim_off, trim_all, off_fits}
 use Rattle.acts.proofs.doing.trim.Goals as goal
 

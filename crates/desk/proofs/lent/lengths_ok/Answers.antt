@@ -1,7 +1,6 @@
 -- `lengths_ok` is its definition: the four tests in a row, over numbers that the limits of the sizes keep small.
 -- Assumes nothing.
 use native.Mathlib.Omega.{arith}
-use borrow.Author.Rules.{rules}
 use Rattle.places.proofs.Limits.{slots_few}
 use Rattle.desk.proofs.Opens.{lengths_test}
 use Rattle.desk.proofs.lent.lengths_ok.Goals as goal

@@ -1,7 +1,6 @@
 -- `open` is its definition, one law of `Opens` for each way through it.
 -- Assumes nothing.
 use Rattle.std.proofs.lemmas.Bool.{not_from_true}
-use borrow.Author.Rules.{rules}
 use Rattle.desk.proofs.Opens.{opens_badly, opens_short, opens_misshapen, opens_astray, opens_twice, opens}
 use Rattle.desk.proofs.Outcomes.{tests_fit, slots_long}
 use Rattle.desk.proofs.opening.open.Goals as goal

@@ -1,6 +1,5 @@
 -- `begun` is its definition, one law of `Starts` for each request.
 -- Assumes nothing.
-use borrow.Author.Rules.{rules}
 use Rattle.desk.proofs.Starts.{begins_read, begins_delete, begins_insert}
 use Rattle.desk.proofs.starting.begun.Goals as goal
 

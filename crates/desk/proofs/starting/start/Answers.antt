@@ -1,7 +1,6 @@
 -- `start` is its definition: one law of `Starts` for each test before the call, and the call itself once all three are passed.
 -- Assumes nothing.
 use Rattle.std.proofs.lemmas.Bool.{not_from_true}
-use borrow.Author.Rules.{rules}
 use Rattle.desk.proofs.Outcomes.{tests_fit, lists_long, tests_stood}
 use Rattle.desk.proofs.Starts.{starts_badly, starts_short, starts_fallen}
 use Rattle.desk.proofs.starting.start.Goals as goal

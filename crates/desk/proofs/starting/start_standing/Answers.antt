@@ -1,6 +1,5 @@
 -- `start_standing` is its definition, one law of `Starts` for each way through it; what stands has room for each lane.
 -- Assumes nothing.
-use borrow.Author.Rules.{rules}
 use Rattle.desk.proofs.Outcomes.{lane_long}
 use Rattle.desk.proofs.Starts.{starts_nowhere, starts_busy, starts_astray, starts_lane}
 use Rattle.desk.proofs.starting.start_standing.Goals as goal

@@ -1,7 +1,6 @@
 -- `step` is its definition: one law of `Steps` for each test before the call, and the call itself once all three are passed.
 -- Assumes nothing.
 use Rattle.std.proofs.lemmas.Bool.{not_from_true}
-use borrow.Author.Rules.{rules}
 use Rattle.desk.proofs.Outcomes.{tests_fit, lists_long, tests_stood}
 use Rattle.desk.proofs.Steps.{steps_badly, steps_short, steps_fallen}
 use Rattle.desk.proofs.stepping.step.Goals as goal

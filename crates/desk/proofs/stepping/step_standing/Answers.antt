@@ -1,6 +1,5 @@
 -- `step_standing` is its definition, one law of `Steps` for each way through it; what stands gives what the step of a lane asks.
 -- Assumes nothing.
-use borrow.Author.Rules.{rules}
 use Rattle.desk.proofs.Outcomes.{lane_long}
 use Rattle.desk.proofs.Steps.{step_fits, steps_nowhere, steps_idle, steps_lane}
 use Rattle.desk.proofs.stepping.step_standing.Goals as goal

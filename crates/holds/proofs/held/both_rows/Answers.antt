@@ -1,6 +1,5 @@
 -- `both_rows` is its definition: from those of what it calls.
 -- Assumes nothing.
-use borrow.Author.Rules.{rules}
 use Rattle.holds.proofs.held.both_rows.Goals as goal
 
 pub returns : goal.returns

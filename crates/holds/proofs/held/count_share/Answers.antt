@@ -1,6 +1,5 @@
 -- `count_share` is its definition: from those of what it calls; a part adds at most 1.
 -- Assumes nothing.
-use borrow.Author.Rules.{rules}
 use Rattle.holds.proofs.Low.{count_low}
 use Rattle.holds.proofs.held.count_share.Goals as goal
 

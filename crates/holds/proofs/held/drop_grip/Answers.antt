@@ -1,6 +1,5 @@
 -- `drop_grip` is its definition: by the two ways its test goes.
 -- Assumes nothing.
-use borrow.Author.Rules.{rules}
 use Rattle.holds.proofs.Holding.{drops_second, drops_first}
 use Rattle.holds.proofs.held.drop_grip.Goals as goal
 

@@ -1,6 +1,5 @@
 -- `flag_share` is its definition: from those of what it calls; a part adds at most 1.
 -- Assumes nothing.
-use borrow.Author.Rules.{rules}
 use Rattle.holds.proofs.Low.{flag_low}
 use Rattle.holds.proofs.held.flag_share.Goals as goal
 

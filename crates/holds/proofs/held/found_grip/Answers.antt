@@ -1,6 +1,5 @@
 -- `found_grip` is its definition: from those of what it calls.
 -- Assumes nothing.
-use borrow.Author.Rules.{rules}
 use Rattle.holds.proofs.held.found_grip.Goals as goal
 
 pub returns : goal.returns

@@ -1,6 +1,5 @@
 -- `grip_of` is its definition: by what the stage is.
 -- Assumes nothing.
-use borrow.Author.Rules.{rules}
 use Rattle.machine.specs.Claims.{grip_at}
 use Rattle.holds.proofs.Holding.{by_grip}
 use Rattle.holds.proofs.held.grip_of.Goals as goal

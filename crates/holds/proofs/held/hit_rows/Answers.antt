@@ -1,6 +1,5 @@
 -- `hit_rows` is its definition: by what the side is.
 -- Assumes nothing.
-use borrow.Author.Rules.{rules}
 use Rattle.holds.proofs.Holding.{by_hit_side}
 use Rattle.holds.proofs.held.hit_rows.Goals as goal
 

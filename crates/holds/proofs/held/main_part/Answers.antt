@@ -1,6 +1,5 @@
 -- `main_part` is its definition: by what the operation is.
 -- Assumes nothing.
-use borrow.Author.Rules.{rules}
 use Rattle.holds.proofs.Holding.{main_by}
 use Rattle.holds.proofs.held.main_part.Goals as goal
 

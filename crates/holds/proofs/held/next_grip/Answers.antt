@@ -1,6 +1,5 @@
 -- `next_grip` is its definition: from those of what it calls.
 -- Assumes nothing.
-use borrow.Author.Rules.{rules}
 use Rattle.holds.proofs.held.next_grip.Goals as goal
 
 pub returns : goal.returns

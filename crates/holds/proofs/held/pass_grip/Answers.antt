@@ -1,6 +1,5 @@
 -- `pass_grip` is its definition: from those of what it calls, with the two rows by name.
 -- Assumes nothing.
-use borrow.Author.Rules.{rules}
 use Rattle.holds.proofs.Holding.{pass_locks}
 use Rattle.holds.proofs.held.pass_grip.Goals as goal
 

@@ -1,6 +1,5 @@
 -- `reads_share` is its definition: from those of what it calls; a part adds at most 1.
 -- Assumes nothing.
-use borrow.Author.Rules.{rules}
 use Rattle.holds.proofs.Low.{reads_low}
 use Rattle.holds.proofs.held.reads_share.Goals as goal
 

@@ -1,6 +1,5 @@
 -- `shares_of` is its definition: from those of what it calls.
 -- Assumes nothing.
-use borrow.Author.Rules.{rules}
 use Rattle.holds.proofs.held.shares_of.Goals as goal
 
 pub returns : goal.returns

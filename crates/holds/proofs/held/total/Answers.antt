@@ -1,7 +1,6 @@
 -- `total` is its definition: three numbers of at most 1, added.
 -- Assumes nothing.
 use native.Mathlib.Omega.{arith}
-use borrow.Author.Rules.{rules}
 use Rattle.holds.proofs.Low.{on_low}
 use Rattle.holds.proofs.held.total.Goals as goal
 

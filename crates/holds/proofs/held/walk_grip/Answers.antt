@@ -1,6 +1,5 @@
 -- `walk_grip` is its definition: from those of what it calls, with the two rows by name.
 -- Assumes nothing.
-use borrow.Author.Rules.{rules}
 use Rattle.holds.proofs.Holding.{walk_locks}
 use Rattle.holds.proofs.held.walk_grip.Goals as goal
 

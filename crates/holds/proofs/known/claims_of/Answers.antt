@@ -1,6 +1,5 @@
 -- `claims_of` is its definition: by what the stage is.
 -- Assumes nothing.
-use borrow.Author.Rules.{rules}
 use Rattle.machine.specs.Claims.{claims_at}
 use Rattle.holds.proofs.Holding.{by_claims}
 use Rattle.holds.proofs.known.claims_of.Goals as goal

@@ -1,6 +1,5 @@
 -- `drop_claims` is its definition: by what the outcome is.
 -- Assumes nothing.
-use borrow.Author.Rules.{rules}
 use Rattle.holds.proofs.Holding.{by_drop}
 use Rattle.holds.proofs.known.drop_claims.Goals as goal
 

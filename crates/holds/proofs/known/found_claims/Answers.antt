@@ -1,6 +1,5 @@
 -- `found_claims` is its definition: by what the attempt found.
 -- Assumes nothing.
-use borrow.Author.Rules.{rules}
 use Rattle.holds.proofs.Holding.{found_room, by_found}
 use Rattle.holds.proofs.known.found_claims.Goals as goal
 

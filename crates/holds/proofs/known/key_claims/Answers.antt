@@ -1,6 +1,5 @@
 -- `key_claims` is its definition: from those of what it calls.
 -- Assumes nothing.
-use borrow.Author.Rules.{rules}
 use Rattle.holds.proofs.known.key_claims.Goals as goal
 
 pub returns : goal.returns

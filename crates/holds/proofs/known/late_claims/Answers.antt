@@ -1,6 +1,5 @@
 -- `late_claims` is its definition: by what the outcome is.
 -- Assumes nothing.
-use borrow.Author.Rules.{rules}
 use Rattle.holds.proofs.Holding.{by_late}
 use Rattle.holds.proofs.known.late_claims.Goals as goal
 

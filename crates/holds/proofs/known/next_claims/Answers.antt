@@ -1,6 +1,5 @@
 -- `next_claims` is its definition: from those of what it calls.
 -- Assumes nothing.
-use borrow.Author.Rules.{rules}
 use Rattle.holds.proofs.known.next_claims.Goals as goal
 
 pub returns : goal.returns

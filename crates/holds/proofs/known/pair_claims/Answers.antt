@@ -1,6 +1,5 @@
 -- `pair_claims` is its definition: from those of what it calls.
 -- Assumes nothing.
-use borrow.Author.Rules.{rules}
 use Rattle.holds.proofs.known.pair_claims.Goals as goal
 
 pub returns : goal.returns

@@ -1,6 +1,5 @@
 -- `pass_claims` is its definition: the two rows are those of the key.
 -- Assumes nothing.
-use borrow.Author.Rules.{rules}
 use Rattle.holds.proofs.Holding.{pass_rows}
 use Rattle.holds.proofs.known.pass_claims.Goals as goal
 

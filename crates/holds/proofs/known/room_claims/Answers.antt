@@ -1,6 +1,5 @@
 -- `room_claims` is its definition: by what the side is.
 -- Assumes nothing.
-use borrow.Author.Rules.{rules}
 use Rattle.holds.proofs.Holding.{room_first, room_second}
 use Rattle.holds.proofs.known.room_claims.Goals as goal
 

@@ -1,6 +1,5 @@
 -- `advance` does what a step comes to: accepted it puts its line, refused it leaves the table as it was.
 -- Assumes nothing.
-use borrow.Author.Rules.{rules}
 use Rattle.jobs.proofs.Obeyed.{step_accepted, step_refused}
 use Rattle.jobs.proofs.doing.advance.Goals as goal
 

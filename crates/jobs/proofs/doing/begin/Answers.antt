@@ -1,6 +1,5 @@
 -- `begin` does what a start comes to: accepted it goes on, refused it leaves the table as it was.
 -- Assumes nothing.
-use borrow.Author.Rules.{rules}
 use Rattle.jobs.proofs.Obeyed.{start_accepted, start_refused}
 use Rattle.jobs.proofs.doing.begin.Goals as goal
 

@@ -1,6 +1,5 @@
 -- `finish` puts what the end of a job prints, by whether a byte stands after it.
 -- Assumes nothing.
-use borrow.Author.Rules.{rules}
 use Rattle.jobs.proofs.Obeyed.{end_fault, end_lines_lem}
 use Rattle.jobs.proofs.doing.finish.Goals as goal
 

@@ -1,7 +1,6 @@
 -- `obey` does what the record comes to, one law for each kind. What stands has slots of the right length.
 -- Assumes nothing.
 use native.Mathlib.Omega.{arith}
-use borrow.Author.Rules.{rules}
 use Rattle.kept.proofs.Long.{lengths_of}
 use Rattle.places.proofs.Limits.{ok_fits}
 use Rattle.jobs.proofs.Obeyed.{on_sizes, on_start, on_step, on_end, on_bad}

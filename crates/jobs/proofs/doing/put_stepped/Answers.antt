@@ -1,6 +1,5 @@
 -- `put_stepped` puts the line of a step that is done, and nothing for any other.
 -- Assumes nothing.
-use borrow.Author.Rules.{rules}
 use Rattle.jobs.proofs.Obeyed.{line_done, line_sizes, line_lengths, line_standing, line_lane, line_idle}
 use Rattle.jobs.proofs.doing.put_stepped.Goals as goal
 

@@ -1,6 +1,5 @@
 -- `step_number` is its definition: a step that is done has number 0, whatever its answer.
 -- Assumes nothing.
-use borrow.Author.Rules.{rules}
 use Rattle.jobs.proofs.Obeyed.{number_done}
 use Rattle.jobs.proofs.doing.step_number.Goals as goal
 

@@ -1,6 +1,5 @@
 -- `advance_at` is its definition, by the stage: each stage goes where its function says, and its numbers are in range for it.
 -- Assumes nothing.
-use borrow.Author.Rules.{rules}
 use Rattle.acts.proofs.Acting.{low_some, high_some}
 use Rattle.moves.proofs.Ways.{goes_on_lem, ends_on}
 use Rattle.lanes.proofs.Advancing.{moved_at, first_column, second_column, first_room, second_room, next_column_lem, picks_fit, places_fit}

@@ -1,6 +1,5 @@
 -- `after_swing` is its definition, by whether a place is left.
 -- Assumes nothing.
-use borrow.Author.Rules.{rules}
 use Rattle.moves.proofs.Ways.{swing_over, swing_more}
 use Rattle.moves.proofs.going.after_swing.Goals as goal
 

@@ -1,6 +1,5 @@
 -- `after_write` is its definition, by the operation.
 -- Assumes nothing.
-use borrow.Author.Rules.{rules}
 use Rattle.moves.proofs.Ways.{write_at}
 use Rattle.moves.proofs.going.after_write.Goals as goal
 

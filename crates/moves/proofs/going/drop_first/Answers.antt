@@ -1,6 +1,5 @@
 -- `drop_first` is its definition, by the two ways its test goes.
 -- Assumes nothing.
-use borrow.Author.Rules.{rules}
 use Rattle.moves.proofs.Ways.{drops_on, drops_done}
 use Rattle.moves.proofs.going.drop_first.Goals as goal
 

@@ -1,6 +1,5 @@
 -- `drop_low` is its definition, by whether the swing's rows have one lock.
 -- Assumes nothing.
-use borrow.Author.Rules.{rules}
 use Rattle.rows.proofs.Choices.{one_lock, two_locks}
 use Rattle.moves.proofs.going.drop_low.Goals as goal
 

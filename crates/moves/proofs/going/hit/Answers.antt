@@ -1,6 +1,5 @@
 -- `hit` is its definition, by the operation.
 -- Assumes nothing.
-use borrow.Author.Rules.{rules}
 use Rattle.moves.proofs.Ways.{hit_at}
 use Rattle.moves.proofs.going.hit.Goals as goal
 

@@ -1,6 +1,5 @@
 -- `leave` is its definition, by the outcome.
 -- Assumes nothing.
-use borrow.Author.Rules.{rules}
 use Rattle.moves.proofs.Ways.{leave_at, goes_on_lem, ends_on}
 use Rattle.moves.proofs.going.leave.Goals as goal
 

@@ -1,6 +1,5 @@
 -- `seek_first` is its definition, by whether the slot holds the key.
 -- Assumes nothing.
-use borrow.Author.Rules.{rules}
 use Rattle.moves.proofs.Ways.{goes_on_lem}
 use Rattle.rows.proofs.Choices.{chosen, not_chosen}
 use Rattle.moves.proofs.going.seek_first.Goals as goal

@@ -1,6 +1,5 @@
 -- `after_attempt` is its definition, by what the attempt found.
 -- Assumes nothing.
-use borrow.Author.Rules.{rules}
 use Rattle.moves.proofs.Ways.{attempt_room, attempt_full}
 use Rattle.moves.proofs.next.after_attempt.Goals as goal
 

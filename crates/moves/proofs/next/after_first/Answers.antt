@@ -1,6 +1,5 @@
 -- `after_first` is its definition, by whether the key's rows have one lock.
 -- Assumes nothing.
-use borrow.Author.Rules.{rules}
 use Rattle.rows.proofs.Choices.{chosen, not_chosen}
 use Rattle.moves.proofs.next.after_first.Goals as goal
 

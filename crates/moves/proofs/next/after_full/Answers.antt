@@ -1,6 +1,5 @@
 -- `after_full` is its definition, by the two ways its test goes.
 -- Assumes nothing.
-use borrow.Author.Rules.{rules}
 use Rattle.rows.proofs.Choices.{below, not_below}
 use Rattle.moves.proofs.next.after_full.Goals as goal
 

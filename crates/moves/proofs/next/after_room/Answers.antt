@@ -1,6 +1,5 @@
 -- `after_room` is its definition, by the operation.
 -- Assumes nothing.
-use borrow.Author.Rules.{rules}
 use Rattle.moves.proofs.Ways.{room_at}
 use Rattle.moves.proofs.next.after_room.Goals as goal
 

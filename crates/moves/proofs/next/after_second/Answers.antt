@@ -1,6 +1,5 @@
 -- `after_second` is its definition, by the operation.
 -- Assumes nothing.
-use borrow.Author.Rules.{rules}
 use Rattle.moves.proofs.Ways.{second_at}
 use Rattle.moves.proofs.next.after_second.Goals as goal
 

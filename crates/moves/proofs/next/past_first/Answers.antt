@@ -1,6 +1,5 @@
 -- `past_first` is its definition, by the two ways its test goes.
 -- Assumes nothing.
-use borrow.Author.Rules.{rules}
 use Rattle.rows.proofs.Choices.{below, not_below}
 use Rattle.moves.proofs.next.past_first.Goals as goal
 

@@ -1,6 +1,5 @@
 -- `room_first` is its definition, by the ways its two tests go.
 -- Assumes nothing.
-use borrow.Author.Rules.{rules}
 use Rattle.rows.proofs.Choices.{chosen, not_chosen, below, not_below}
 use Rattle.moves.proofs.next.room_first.Goals as goal
 

@@ -1,6 +1,5 @@
 -- `took_low` is its definition, by how the try went.
 -- Assumes nothing.
-use borrow.Author.Rules.{rules}
 use Rattle.moves.proofs.Ways.{tried_at}
 use Rattle.moves.proofs.next.took_low.Goals as goal
 

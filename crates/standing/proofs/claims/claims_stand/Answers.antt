@@ -1,7 +1,6 @@
 -- `claims_stand` is its definition: its tests are those of the list, in that order.
 -- Assumes nothing.
 use mathlib.Core.Bool.{and-true}
-use borrow.Author.Rules.{rules}
 use Rattle.standing.proofs.claims.claims_stand.Goals as goal
 
 pub returns : goal.returns

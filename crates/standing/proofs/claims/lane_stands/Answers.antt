@@ -1,6 +1,5 @@
 -- `lane_stands` is its definition: an early false is that of a list of tests, and the last tests decide.
 -- Assumes nothing.
-use borrow.Author.Rules.{rules}
 use Rattle.standing.proofs.Whole.{lane_strange, lane_outside, lane_claims}
 use Rattle.standing.proofs.claims.lane_stands.Goals as goal
 

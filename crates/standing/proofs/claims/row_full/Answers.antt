@@ -1,12 +1,8 @@
 -- `row_full` is its definition: the columns passed so far are full.
 -- Assumes nothing.
-use mathlib.Core.Bool.{true}
-use mathlib.Core.Path.{◌≡◌, refl}
-use Prim.Native.Nat.{◌≤◌, ◌-◌}
+use mathlib.Core.Path.{refl}
 use native.Mathlib.Omega.{arith}
-use borrow.Author.Rules.{rules}
 use Rattle.lists.specs.Below.{all_below}
-use Rattle.standing.specs.Looks.{full_at}
 use Rattle.standing.proofs.Turns.{full_stop, full_pass, all_end}
 use Rattle.standing.proofs.claims.row_full.Goals as goal
 

@@ -1,12 +1,9 @@
 -- `row_full` is its definition: the columns passed so far are full.
 use mathlib.Core.Bool.{true}
-use mathlib.Core.Path.{◌≡◌, refl}
+use mathlib.Core.Path.{◌≡◌}
 use Prim.Native.Nat.{◌≤◌, ◌-◌}
-use native.Mathlib.Omega.{arith}
-use borrow.Author.Rules.{rules}
 use Rattle.lists.specs.Below.{all_below}
 use Rattle.standing.specs.Looks.{full_at}
-use Rattle.standing.proofs.Turns.{full_stop, full_pass, all_end}
 use Rattle.standing.proofs.claims.row_full.Given as goal
 
 abbrev pub invariant-loop-i : goal.invariant-loop-i

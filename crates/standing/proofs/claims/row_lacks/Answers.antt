@@ -1,12 +1,8 @@
 -- `row_lacks` is its definition: the columns passed so far lack the key.
 -- Assumes nothing.
-use mathlib.Core.Bool.{true}
-use mathlib.Core.Path.{◌≡◌, refl}
-use Prim.Native.Nat.{◌≤◌, ◌-◌}
+use mathlib.Core.Path.{refl}
 use native.Mathlib.Omega.{arith}
-use borrow.Author.Rules.{rules}
 use Rattle.lists.specs.Below.{all_below}
-use Rattle.standing.specs.Looks.{lacks_at}
 use Rattle.standing.proofs.Turns.{lacks_stop, lacks_pass, all_end}
 use Rattle.standing.proofs.claims.row_lacks.Goals as goal
 

@@ -1,12 +1,9 @@
 -- `row_lacks` is its definition: the columns passed so far lack the key.
 use mathlib.Core.Bool.{true}
-use mathlib.Core.Path.{◌≡◌, refl}
+use mathlib.Core.Path.{◌≡◌}
 use Prim.Native.Nat.{◌≤◌, ◌-◌}
-use native.Mathlib.Omega.{arith}
-use borrow.Author.Rules.{rules}
 use Rattle.lists.specs.Below.{all_below}
 use Rattle.standing.specs.Looks.{lacks_at}
-use Rattle.standing.proofs.Turns.{lacks_stop, lacks_pass, all_end}
 use Rattle.standing.proofs.claims.row_lacks.Given as goal
 
 abbrev pub invariant-loop-i : goal.invariant-loop-i

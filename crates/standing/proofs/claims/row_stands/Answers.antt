@@ -1,6 +1,5 @@
 -- `row_stands` is its definition: from those of its two loops.
 -- Assumes nothing.
-use borrow.Author.Rules.{rules}
 use Rattle.standing.proofs.Whole.{row_whole}
 use Rattle.standing.proofs.claims.row_stands.Goals as goal
 

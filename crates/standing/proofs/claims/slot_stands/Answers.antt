@@ -1,6 +1,5 @@
 -- `slot_stands` is its definition, by which claim it is.
 -- Assumes nothing.
-use borrow.Author.Rules.{rules}
 use Rattle.standing.proofs.Whole.{claim_none, claim_key, claim_pair, claim_room}
 use Rattle.standing.proofs.claims.slot_stands.Goals as goal
 

@@ -1,10 +1,6 @@
 -- `all_shares` is its definition: what the lanes passed so far add, at most 3 each.
 -- Assumes nothing.
-use mathlib.Core.Path.{◌≡◌}
-use Prim.Native.Nat.{◌≤◌, ◌-◌}
 use native.Mathlib.Omega.{arith}
-use borrow.Author.Rules.{rules}
-use Rattle.standing.specs.Parts.{shares_to}
 use Rattle.standing.proofs.Shared.{lane_few, lanes_few, shares_none, shares_turn, shares_end}
 use Rattle.standing.proofs.counts.all_shares.Goals as goal
 

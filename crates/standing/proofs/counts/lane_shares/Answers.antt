@@ -1,6 +1,5 @@
 -- `lane_shares` is its definition: from those of what it calls.
 -- Assumes nothing.
-use borrow.Author.Rules.{rules}
 use Rattle.standing.proofs.Shared.{shares_named}
 use Rattle.standing.proofs.counts.lane_shares.Goals as goal
 

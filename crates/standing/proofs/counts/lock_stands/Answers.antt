@@ -1,6 +1,5 @@
 -- `lock_stands` is its definition: a lock's words against the four sums.
 -- Assumes nothing.
-use borrow.Author.Rules.{rules}
 use Rattle.standing.proofs.Shared.{lock_tested}
 use Rattle.standing.proofs.counts.lock_stands.Goals as goal
 

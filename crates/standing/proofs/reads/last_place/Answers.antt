@@ -1,6 +1,5 @@
 -- `last_place` is the last place of a lane: read where the store has as many, zeros past the end.
 -- Assumes nothing.
-use borrow.Author.Rules.{rules}
 use Rattle.standing.proofs.Beyond.{last_named, last_past}
 use Rattle.standing.proofs.reads.last_place.Goals as goal
 

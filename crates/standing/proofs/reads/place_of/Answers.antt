@@ -1,6 +1,5 @@
 -- `place_of` is place i of the store: read where there is one, zeros past the end.
 -- Assumes nothing.
-use borrow.Author.Rules.{rules}
 use Rattle.standing.proofs.Beyond.{place_past}
 use Rattle.standing.proofs.reads.place_of.Goals as goal
 

@@ -1,6 +1,5 @@
 -- `linked` is its definition: from the two places that it reads.
 -- Assumes nothing.
-use borrow.Author.Rules.{rules}
 use Rattle.standing.proofs.Whole.{linked_whole}
 use Rattle.standing.proofs.route.linked.Goals as goal
 

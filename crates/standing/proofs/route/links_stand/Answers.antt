@@ -1,12 +1,8 @@
 -- `links_stand` is its definition: the places passed so far are linked to the next.
 -- Assumes nothing.
-use mathlib.Core.Bool.{true}
-use mathlib.Core.Path.{◌≡◌, refl}
-use Prim.Native.Nat.{◌≤◌, ◌-◌}
+use mathlib.Core.Path.{refl}
 use native.Mathlib.Omega.{arith}
-use borrow.Author.Rules.{rules}
 use Rattle.lists.specs.Below.{all_below}
-use Rattle.machine.specs.Standing.{linked}
 use Rattle.standing.proofs.Turns.{short_stop, all_pass, short_end}
 use Rattle.standing.proofs.route.links_stand.Goals as goal
 

@@ -1,12 +1,9 @@
 -- `links_stand` is its definition: the places passed so far are linked to the next.
 use mathlib.Core.Bool.{true}
-use mathlib.Core.Path.{◌≡◌, refl}
+use mathlib.Core.Path.{◌≡◌}
 use Prim.Native.Nat.{◌≤◌, ◌-◌}
-use native.Mathlib.Omega.{arith}
-use borrow.Author.Rules.{rules}
 use Rattle.lists.specs.Below.{all_below}
 use Rattle.machine.specs.Standing.{linked}
-use Rattle.standing.proofs.Turns.{short_stop, all_pass, short_end}
 use Rattle.standing.proofs.route.links_stand.Given as goal
 
 abbrev pub invariant-loop-i : goal.invariant-loop-i

@@ -1,6 +1,5 @@
 -- `path_stands` is its definition: from those of its three loops.
 -- Assumes nothing.
-use borrow.Author.Rules.{rules}
 use Rattle.standing.proofs.Whole.{path_whole}
 use Rattle.standing.proofs.route.path_stands.Goals as goal
 

@@ -1,11 +1,8 @@
 -- `path_used` is the sum of the lanes' path lengths, each a number of 32 bits: so far that of the lanes passed.
 -- Assumes nothing.
-use mathlib.Core.Path.{◌≡◌, refl}
-use Prim.Native.Nat.{◌≤◌, ◌-◌, ◌*◌}
+use mathlib.Core.Path.{refl}
 use native.Mathlib.Omega.{arith}
-use borrow.Author.Rules.{rules}
 use Rattle.lists.specs.Below.{sum_below}
-use Rattle.standing.specs.Looks.{length_at}
 use Rattle.standing.proofs.Shared.{used_turn, used_end}
 use Rattle.standing.proofs.route.path_used.Goals as goal
 

@@ -1,7 +1,6 @@
 -- `place_stands` is its definition: its tests are those of the list, in that order.
 -- Assumes nothing.
 use mathlib.Core.Bool.{and-true}
-use borrow.Author.Rules.{rules}
 use Rattle.machine.specs.Standing.{place_stands}
 use Rattle.standing.proofs.route.place_stands.Goals as goal
 

@@ -1,12 +1,8 @@
 -- `places_stand` is its definition: the places passed so far stand.
 -- Assumes nothing.
-use mathlib.Core.Bool.{true}
-use mathlib.Core.Path.{◌≡◌, refl}
-use Prim.Native.Nat.{◌≤◌, ◌-◌}
+use mathlib.Core.Path.{refl}
 use native.Mathlib.Omega.{arith}
-use borrow.Author.Rules.{rules}
 use Rattle.lists.specs.Below.{all_below}
-use Rattle.standing.specs.Looks.{placed_at}
 use Rattle.standing.proofs.Turns.{placed_stop, placed_pass, all_end}
 use Rattle.standing.proofs.route.places_stand.Goals as goal
 

@@ -1,12 +1,9 @@
 -- `places_stand` is its definition: the places passed so far stand.
 use mathlib.Core.Bool.{true}
-use mathlib.Core.Path.{◌≡◌, refl}
+use mathlib.Core.Path.{◌≡◌}
 use Prim.Native.Nat.{◌≤◌, ◌-◌}
-use native.Mathlib.Omega.{arith}
-use borrow.Author.Rules.{rules}
 use Rattle.lists.specs.Below.{all_below}
 use Rattle.standing.specs.Looks.{placed_at}
-use Rattle.standing.proofs.Turns.{placed_stop, placed_pass, all_end}
 use Rattle.standing.proofs.route.places_stand.Given as goal
 
 abbrev pub invariant-loop-i : goal.invariant-loop-i

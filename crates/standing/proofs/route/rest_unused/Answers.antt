@@ -1,12 +1,8 @@
 -- `rest_unused` is its definition: the places passed so far are used or zeros.
 -- Assumes nothing.
-use mathlib.Core.Bool.{true}
-use mathlib.Core.Path.{◌≡◌, refl}
-use Prim.Native.Nat.{◌≤◌, ◌-◌}
+use mathlib.Core.Path.{refl}
 use native.Mathlib.Omega.{arith}
-use borrow.Author.Rules.{rules}
 use Rattle.lists.specs.Below.{all_below}
-use Rattle.standing.specs.Looks.{cleared_at}
 use Rattle.standing.proofs.Turns.{cleared_stop, cleared_pass, all_end}
 use Rattle.standing.proofs.route.rest_unused.Goals as goal
 

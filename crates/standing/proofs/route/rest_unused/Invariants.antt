@@ -1,12 +1,9 @@
 -- `rest_unused` is its definition: the places passed so far are used or zeros.
 use mathlib.Core.Bool.{true}
-use mathlib.Core.Path.{◌≡◌, refl}
+use mathlib.Core.Path.{◌≡◌}
 use Prim.Native.Nat.{◌≤◌, ◌-◌}
-use native.Mathlib.Omega.{arith}
-use borrow.Author.Rules.{rules}
 use Rattle.lists.specs.Below.{all_below}
 use Rattle.standing.specs.Looks.{cleared_at}
-use Rattle.standing.proofs.Turns.{cleared_stop, cleared_pass, all_end}
 use Rattle.standing.proofs.route.rest_unused.Given as goal
 
 abbrev pub invariant-loop-i : goal.invariant-loop-i

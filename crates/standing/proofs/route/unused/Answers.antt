@@ -1,6 +1,5 @@
 -- `unused` is its definition: from the place that it reads.
 -- Assumes nothing.
-use borrow.Author.Rules.{rules}
 use Rattle.standing.proofs.Whole.{unused_whole}
 use Rattle.standing.proofs.route.unused.Goals as goal
 
