@@ -50,7 +50,8 @@ use Rattle.kept.proofs.Others.{alone, share_sum}
 use Rattle.machine.proofs.Own.{Looks, own_claims}
 use Rattle.machine.proofs.Grabbing.{waits_fit}
 use Rattle.machine.proofs.Single.{path_main}
-use Rattle.machine.proofs.Range.{TryFits, range_kept}
+use Rattle.machine.proofs.Range.{TryFits}
+use Rattle.machine.proofs.RangeKept.{range_kept}
 use Rattle.kept.proofs.Long.{Lengths}
 use Rattle.machine.proofs.Follows.{Follows}
 use Rattle.machine.proofs.Shift.{touch_at}

@@ -9,6 +9,7 @@ pub mod Route
 pub mod Frame
 pub mod Grabbing
 pub mod Range
+pub mod RangeKept
 pub mod Shift
 pub mod Guards
 pub mod Single

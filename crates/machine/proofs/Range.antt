@@ -95,7 +95,7 @@ module _ (z : Sizes) (f : Fits z) (l : Lane) (last last' : Place) (seen : Seen) 
   apart_on : (w : Walk) → last' ≡ last → (swing_rows z last w).shared ≡ false → not (swing_rows z last' w).shared ≡ true
   apart_on w e h = rw (e, h) refl
 
-  range_at : (s : Stage) (m : Moved) → Each (stage_in z l last s) → TryFits z l seen s → LastIn z last s → Follows z s last last' → Goes z l last seen s m → Each (lane_in z m.lane last')
+  pub range_at : (s : Stage) (m : Moved) → Each (stage_in z l last s) → TryFits z l seen s → LastIn z last s → Follows z s last last' → Goes z l last seen s m → Each (lane_in z m.lane last')
   range_at s m r t c w rests = (hk, (hv, r))
   range_at s m r t c w (main_waits {g'} e) = (hk, (hv, (r.0, (t g' e, tt))))
   range_at s m r t c w (main_held e) = (hk, (hv, (inserts_busy l.op (first_inserts l.op r.0), (fresh z (mode_of l.op), tt))))
@@ -148,6 +148,3 @@ module _ (z : Sizes) (f : Fits z) (l : Lane) (last last' : Place) (seen : Seen) 
   range_at s m r t c w (drops_low {w = u} e) = (hk, (hv, (r.0, (apart_on u (w.0 e) e, walk_on u (w.0 e) r.1))))
   range_at s m r t c w (drops_both {w = u} {m = n} e p) = swing_in u n r.0 r.1 (c (λ q. omega (arith, leb-true 1 u.places r.1.0))) (w.1 e) p
   range_at s m r t c w (drops_high {w = u} {m = n} p) = swing_in u n r.0 r.1.1 (c (λ q. omega (arith, leb-true 1 u.places r.1.1.0))) w p
-
-pub range_kept : (z : Sizes) → Fits z → (l : Lane) (last last' : Place) (seen : Seen) (s : Stage) (m : Moved) → leb l.key max_key ≡ true → (is_insert l.op || eqb l.value 0) ≡ true → Each (stage_in z l last s) → TryFits z l seen s → LastIn z last s → Follows z s last last' → Goes z l last seen s m → Each (lane_in z m.lane last')
-range_kept z f l last last' seen s m hk hv r t c w p = range_at z f l last last' seen hk hv s m r t c w p

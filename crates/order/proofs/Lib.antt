@@ -1,5 +1,6 @@
 pub mod Binds
 pub mod Ghosts
+pub mod Dropped
 pub mod Placed
 pub mod Moves
 pub mod Begins
@@ -8,5 +9,6 @@ pub mod Order
 pub mod Tally
 pub mod Counted
 pub mod Ends
+pub mod OneStep
 pub mod Demand2
 pub mod Example

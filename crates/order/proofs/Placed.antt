@@ -1,6 +1,6 @@
 -- Each way a step can go, seen from the order: nobody sees it, or an operation takes its place, or ends, or does both.
 -- Assumes nothing.
-use mathlib.Core.Path.{◌≡◌, refl, ap, sym, ◌∙◌}
+use mathlib.Core.Path.{◌≡◌, refl, sym, ◌∙◌}
 use mathlib.Core.Bool.{true, false, false≢true}
 use mathlib.Core.Option.{none, some}
 use Prim.Native.Nat.{ℕ, ◌+◌, ◌-◌, ◌<◌}
@@ -21,30 +21,21 @@ use Rattle.slots.proofs.Rows.{Lacks, lacks_unbound}
 use Rattle.paths.specs.declared.Place.{Place}
 use Rattle.machine.specs.declared.Side.{Side}
 use Rattle.machine.specs.declared.Side.TheVariants.{First, Second}
-use Rattle.machine.specs.declared.Outcome.{Outcome}
-use Rattle.machine.specs.declared.Outcome.TheVariants.{Hit, Wrote, Filled, Miss, Picked, Stuck}
-use Rattle.machine.specs.declared.Ending.{Ending}
-use Rattle.machine.specs.declared.Ending.TheVariants.{Yes, Searched, Walked}
 use Rattle.machine.specs.declared.Stage.{Stage}
-use Rattle.machine.specs.declared.Stage.TheVariants.{Idle, Pick, DropFirst, DropSecond, DropMain}
 use Rattle.machine.specs.declared.Lane.{Lane}
 use Rattle.machine.specs.declared.Seen.{Seen}
-use Rattle.machine.specs.declared.Answer.TheVariants.{GoesOn, InsertSearched, InsertWalked}
 use Rattle.machine.specs.declared.Moved.{Moved}
-use Rattle.machine.specs.Steps.{row_on, goes_to, ends, insert_end}
-use Rattle.machine.specs.Claims.{is_idle_op, is_first_pass, ending_in, stage_in, claims_at}
+use Rattle.machine.specs.Steps.{row_on}
+use Rattle.machine.specs.Claims.{is_idle_op, stage_in, claims_at}
 use Rattle.machine.proofs.Claimed.{Claimed}
-use Rattle.machine.proofs.Ops.{first_inserts, second_inserts}
 use Rattle.machine.proofs.Own.{Looks}
 use Rattle.kept.proofs.Stores.{row_in_lem, at_homes}
-use Rattle.machine.proofs.Ways.{Leaves, leaves_hit, leaves_ended, leaves_wrote, leaves_filled, leaves_miss, leaves_picked, leaves_stuck, Swings, swings_again, swings_on, Goes, rests, main_waits, main_held, first_waits, first_held, first_read, first_hit, first_more, first_shared, first_apart, second_waits, second_held, second_read, second_hit, second_more, second_miss, second_room, room_first, room_first_more, room_first_full, room_second, room_second_more, room_pick, room_stuck, wrote_hit, wrote_room, picked_first, drops_on, drops_one, drops_two_lem, drops_main, next_waits, next_held, next_free, next_more, next_full, next_picked, next_walk, next_over, next_again, low_waits, low_shared, low_apart, high_waits, high_held, swings, drops_low, drops_both, drops_high}
-use Rattle.linear.specs.Log.{insert_searched, insert_walked}
+use Rattle.machine.proofs.Ways.{Goes, rests, main_waits, main_held, first_waits, first_held, first_read, first_hit, first_more, first_shared, first_apart, second_waits, second_held, second_read, second_hit, second_more, second_miss, second_room, room_first, room_first_more, room_first_full, room_second, room_second_more, room_pick, room_stuck, wrote_hit, wrote_room, picked_first, drops_on, drops_one, drops_two_lem, drops_main, next_waits, next_held, next_free, next_more, next_full, next_picked, next_walk, next_over, next_again, low_waits, low_shared, low_apart, high_waits, high_held, swings, drops_low, drops_both, drops_high}
 use Rattle.linear.specs.Map.{Bindings}
-use Rattle.linear.proofs.Deeds.{has, waits}
-use Rattle.order.specs.Run.{op_at}
 use Rattle.order.specs.Place.{places}
 use Rattle.order.proofs.Binds.{BindsAt}
-use Rattle.order.proofs.Ghosts.{ghost_at, ghost, settled, ending, Kind, quiet, leaves, wrote_ended, wrote_yes, miss_answer, again_op, hit_takes, room_takes, read_takes, miss_takes, no_both}
+use Rattle.order.proofs.Dropped.{drop_on, drop_last, swing_last, end_main}
+use Rattle.order.proofs.Ghosts.{ghost_at, ghost, Kind, quiet, hit_takes, room_takes, read_takes, miss_takes}
 
 module _ (z : Sizes) (f : Fits z) (v : ℕ → Slot) (sv : SoundSlots z v) (x' : Bindings) (l : Lane) (last : Place) (seen : Seen) where
   abbrev X : Bindings
@@ -63,33 +54,6 @@ module _ (z : Sizes) (f : Fits z) (v : ℕ → Slot) (sv : SoundSlots z v) (x' :
       let b : Lacks z v (row_on z l.key Second) l.key = λ i q. below_more (λ (i : ℕ). holds (v (slot_index z (row_on z l.key Second) i)) l.key ≡ false) c two (rw k at h) i (omega (arith, ltb-false (c + 1) z.columns n)) in
       let both-lack : (Lacks z v (home_one z l.key) l.key) × (Lacks z v (home_two z l.key) l.key) = at_homes z f l.key (λ row. Lacks z v row l.key) one b in
       lacks_unbound z f (home_one z) (home_two z) v sv l.key both-lack.0 both-lack.1
-
-  -- the rows are released: by what the pass came to
-  drop_on : (o : Outcome) → x' ≡ X → Kind X x' (settled l o) (ghost (goes_to l (DropSecond o)).lane) GoesOn (places (DropFirst o) (DropSecond o))
-  drop_on (Hit side c value) e = quiet refl e
-  drop_on (Wrote side) e = quiet refl e
-  drop_on Filled e = quiet refl e
-  drop_on Miss e = quiet refl e
-  drop_on Picked e = quiet refl e
-  drop_on Stuck e = quiet refl e
-
-  drop_last : (o : Outcome) (m : Moved) → x' ≡ X → Leaves l o m → Kind X x' (settled l o) (ghost m.lane) m.answer (places (DropFirst o) m.lane.stage)
-  drop_last o m e leaves_hit = leaves refl e
-  drop_last o m e (leaves_ended w) = leaves (ap some (sym (wrote_ended l.op w))) e
-  drop_last o m e (leaves_wrote w) = quiet (ap (has (op_at l)) (sym (wrote_yes l.op w))) e
-  drop_last o m e leaves_filled = quiet refl e
-  drop_last o m e leaves_miss = leaves (miss_answer l.op) e
-  drop_last o m e leaves_picked = quiet refl e
-  drop_last o m e leaves_stuck = quiet refl e
-
-  swing_last : (left : ℕ) (m : Moved) → is_first_pass l.op ≡ true → x' ≡ X → Swings l last left m → Kind X x' (waits (op_at l)) (ghost m.lane) m.answer (places Pick m.lane.stage)
-  swing_last left m i e (swings_again w) = quiet (ap waits (again_op l.op l.key l.value i)) e
-  swing_last left m i e (swings_on w) = quiet refl e
-
-  end_main : (e : Ending) → Each (ending_in z l.op e) → x' ≡ X → Kind X x' (ending l e) (ghost (ends (insert_end e)).lane) (insert_end e) (places (DropMain e) Idle)
-  end_main Yes r e = leaves refl e
-  end_main (Searched n) r e = no_both X x' l.key l.value l.op insert_searched InsertSearched (first_inserts l.op r.0) refl refl e
-  end_main Walked r e = no_both X x' l.key l.value l.op insert_walked InsertWalked (second_inserts l.op r.0) refl refl e
 
   pub kind : (s : Stage) (m : Moved) → is_idle_op l.op ≡ false → Each (stage_in z l last s) → Claimed z v l.key (claims_at z l last s) → Looks z v l last seen s → BindsAt (bound_in (slot_count z) v) x' l s → Goes z l last seen s m
       → Kind (bound_in (slot_count z) v) x' (ghost_at l s) (ghost m.lane) m.answer (places s m.lane.stage)
@@ -121,10 +85,10 @@ module _ (z : Sizes) (f : Fits z) (v : ℕ → Slot) (sv : SoundSlots z v) (x' :
   kind s m i r h k e wrote_hit = hit_takes X x' l.key l.value l.op r.0 e
   kind s m i r h k e wrote_room = room_takes X x' l.key l.value l.op r.0 e
   kind s m i r h k e picked_first = quiet refl e
-  kind s m i r h k e (drops_on {o} a) = drop_on o e
-  kind s m i r h k e (drops_one {o} {m = n} a p) = drop_last o n e p
-  kind s m i r h k e (drops_two_lem {o} {m = n} p) = drop_last o n e p
-  kind s m i r h k e (drops_main {e = end}) = end_main end r e
+  kind s m i r h k e (drops_on {o} a) = drop_on X x' l o e
+  kind s m i r h k e (drops_one {o} {m = n} a p) = drop_last X x' l o n e p
+  kind s m i r h k e (drops_two_lem {o} {m = n} p) = drop_last X x' l o n e p
+  kind s m i r h k e (drops_main {e = end}) = end_main z X x' l end r e
   kind s m i r h k e (next_waits a) = quiet refl e
   kind s m i r h k e (next_held a) = quiet refl e
   kind s m i r h k e (next_free a) = quiet refl e
@@ -141,5 +105,5 @@ module _ (z : Sizes) (f : Fits z) (v : ℕ → Slot) (sv : SoundSlots z v) (x' :
   kind s m i r h k e (high_held a) = quiet refl e
   kind s m i r h k e swings = quiet refl e
   kind s m i r h k e (drops_low a) = quiet refl e
-  kind s m i r h k e (drops_both {w} {m = n} a p) = swing_last (w.places - 1) n r.0 e p
-  kind s m i r h k e (drops_high {w} {m = n} p) = swing_last (w.places - 1) n r.0 e p
+  kind s m i r h k e (drops_both {w} {m = n} a p) = swing_last X x' l last (w.places - 1) n r.0 e p
+  kind s m i r h k e (drops_high {w} {m = n} p) = swing_last X x' l last (w.places - 1) n r.0 e p
