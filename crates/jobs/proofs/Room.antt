@@ -124,7 +124,7 @@ opened_fits z s at l h m = go (sizes_ok z) refl
         omega (arith, length-append (sizes_line z) (print_from (length s) z (job_table z) s at), sizes_most z, from_fits (length s) z (job_table z) s at (ok_fits z e) h)
     go false e = omega (arith, refusal_most 1 0)
 
--- THE BOUND: whatever the job, its print has at most outBytes bytes
+-- THE BOUND: whatever the job, its print has at most out_bytes bytes
 pub print_fits : (s : List ℕ) → length (print_of s) ≤ out_bytes
 unfolding print_of
 print_fits s = go (ltb max_bytes (length s)) refl
