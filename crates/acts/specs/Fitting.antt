@@ -1,4 +1,4 @@
--- What the code of a step asks of the lent memory and the lane: plain bounds, which the standing check gives. And what it owes its definition.
+-- What the code of a step asks of the lent memory and the lane: plain bounds, which the standing check gives.
 -- Assumes nothing.
 use Rattle.std.specs.Prelude.{ℕ, ◌+◌, ◌*◌, ◌≤◌, ◌<◌, ◌≡◌, Bool, ◌&&◌, List, length}
 use Rattle.places.specs.declared.Sizes.{Sizes}
@@ -13,8 +13,7 @@ use Rattle.machine.specs.declared.Tail.{Tail}
 use Rattle.machine.specs.declared.Tail.TheVariants.{Keep, TakeOff, Clear}
 use Rattle.machine.specs.declared.Act.{Act}
 use Rattle.machine.specs.declared.Act.TheVariants.{Rest, Try, Release, Look, Store, PickOne, PickFrom, Move}
-use Rattle.machine.specs.declared.Seen.{Seen}
-use Rattle.machine.specs.Steps.{Memory, Performed}
+use Rattle.machine.specs.Steps.{Memory}
 
 -- the highest number of 32 bits
 abbrev pub max_number : ℕ
@@ -23,15 +22,9 @@ max_number = 4294967295
 abbrev pub memory : List ℕ → List ℕ → List ℕ → Memory
 memory xs ls ps = record { slots = xs; locks = ls; path = ps }
 
--- a place and the key that stands there
-abbrev pub place_in : Sizes → List ℕ → ℕ → ℕ → Place
-place_in z xs row column = record { row = row; column = column; key = (slot_at xs (slot_index z row column)).key }
-
 -- a swing is done, not skipped
 unfoldable pub can_move : Sizes → List ℕ → Place → ℕ → ℕ → Bool
 can_move z xs from row column = holds (slot_at xs (slot_index z from.row from.column)) from.key && is_empty (slot_at xs (slot_index z row column))
-
--- ---- asked
 
 -- the numbers of a stage that the step adds to or subtracts from
 unfoldable pub StageFits : Sizes → Stage → Type 0
@@ -81,11 +74,3 @@ ActFits z m (Store row column s) = (row < z.rows) × (column < z.columns)
 ActFits z m (PickOne one two) = (one < z.rows) × (two < z.rows)
 ActFits z m (PickFrom row i) = (row < z.rows) × (i < path_places z)
 ActFits z m (Move from row column) = (from.row < z.rows) × (from.column < z.columns) × (row < z.rows) × (column < z.columns)
-
--- ---- owed: the lent lists as they are left, and the answer, against an outcome
-
-pub record Performs (r : Seen) (xs ls ps : List ℕ) (o : Performed) : Type 0 where
-  pub seen : r ≡ o.seen
-  pub slots : xs ≡ o.memory.slots
-  pub locks : ls ≡ o.memory.locks
-  pub path : ps ≡ o.memory.path

@@ -1,40 +1,24 @@
-// The one atomic thing that a step does: the only code that touches the lent memory.
-ghost use Rattle.std.specs.Prelude.{◌≡◌, cond, ◌+◌, ◌*◌, ◌/◌, ◌%◌, ◌≤◌, ◌<◌, eqb, length};
-ghost use Rattle.places.specs.Table.{Fits, slot_index, slot_count};
-ghost use Rattle.slots.specs.Slot.{slot_at, with_slot, empty_slot};
-ghost use Rattle.locks.specs.Locks.{lock_at, with_lock, try_lock, released, grab_count, mode_count};
-ghost use Rattle.paths.specs.Path.{with_place};
-ghost use Rattle.machine.specs.Steps.{saw_nothing, tailed, swung, perform};
-ghost use Rattle.acts.specs.Fitting.{max_number, memory, place_in, can_move, TailFits, MemoryFits, ActFits, Performs};
+// The lent memory, and the one atomic thing that a step does to it: the only code that touches it.
+#![tactic(auto, unfolding(machine::specs::Steps::perform, crate::specs::Fitting::ActFits, crate::specs::Fitting::TailFits, crate::specs::Fitting::can_move))]
 
-use super::acts::empty_slot;
-use locks::{Grab, Mode, Tried, release, take_step};
+ghost use Rattle.std.specs.Prelude.{◌≡◌, cond, ◌/◌, ◌%◌, ◌≤◌, ◌<◌, eqb};
+ghost use Rattle.machine.specs.Steps.{tailed};
+ghost use Rattle.acts.specs.Fitting.{memory, MemoryFits, TailFits};
+
+use locks::{Grab, Mode, release, take_step};
 use machine::{Act, Seen, Tail};
-use paths::{Place, empty_path, no_place, set_place};
-use places::{Sizes, slot_index};
-use slots::{Slot, look_for_key, look_for_room, set_slot, slot_at};
+use paths::{Place, empty_path, set_place};
+use places::Layout;
+use slots::{Slot, Slots, set_slot};
 
-fn saw_nothing() -> Seen
-    ensures { result ≡ saw_nothing }
-{
-    let slot = empty_slot();
-    Seen {
-        tried: Tried::Held,
-        slot,
-    }
-}
-
-// One step of taking lock k.
-fn do_try(locks: &mut [u32], k: u32, g: Grab) -> Seen
-    requires k_in_bounds { k * 2 + 1 < length locks.old }
-    requires k_bound { (lock_at locks.old k).count < max_number }
-    requires g_bound { grab_count g ≤ (lock_at locks.old k).count }
-    ensures value { result ≡ record { tried = (try_lock g (lock_at locks.old k)).tried; slot = empty_slot } }
-    ensures locks_after { locks.new ≡ with_lock locks.old k (try_lock g (lock_at locks.old k)).lock }
-{
-    let tried = take_step(locks, k as usize, g);
-    let slot = empty_slot();
-    Seen { tried, slot }
+// The slots, locks and path that are lent to a step, each as long as the sizes call for.
+#[derive(Drop)]
+pub struct LentMemory<'a> {
+    pub z: Layout,
+    pub slots: &'a mut [u32],
+    pub locks: &'a mut [u32],
+    pub path: &'a mut [u32],
+    ghost fits: { MemoryFits z.sizes (memory slots.now locks.now path.now) },
 }
 
 // What a release does to the path.
@@ -44,74 +28,9 @@ fn trim(path: &mut [u32], tail: Tail)
 {
     match tail {
         Tail::Keep => {}
-        Tail::TakeOff(i) => set_place(path, i as usize, no_place()),
+        Tail::TakeOff(i) => set_place(path, i as usize, Place::none()),
         Tail::Clear => empty_path(path),
     }
-}
-
-// The release of lock k.
-fn do_release(locks: &mut [u32], path: &mut [u32], k: u32, mode: Mode, tail: Tail) -> Seen
-    requires k_in_bounds { k * 2 + 1 < length locks.old }
-    requires mode_bound { mode_count mode ≤ (lock_at locks.old k).count }
-    requires tail_fits { TailFits path.old tail }
-    ensures value { result ≡ saw_nothing }
-    ensures locks_after { locks.new ≡ with_lock locks.old k (released mode (lock_at locks.old k)) }
-    ensures path_after { path.new ≡ tailed tail path.old }
-{
-    release(locks, k as usize, mode);
-    trim(path, tail);
-    saw_nothing()
-}
-
-// A look at one slot.
-fn do_look(z: Sizes, slots: &[u32], row: u32, column: u32) -> Seen
-    requires fits { Fits z }
-    requires row_lt_rows { row < z.rows }
-    requires column_lt_columns { column < z.columns }
-    requires slots_len { length slots.now ≡ slot_count z * 3 }
-    ensures { result ≡ record { tried = Tried.Held; slot = slot_at slots.now (slot_index z row column) } }
-{
-    let slot = slot_at(slots, slot_index(z, row, column));
-    Seen {
-        tried: Tried::Held,
-        slot,
-    }
-}
-
-// The write of one slot.
-fn do_store(z: Sizes, slots: &mut [u32], row: u32, column: u32, s: Slot) -> Seen
-    requires fits { Fits z }
-    requires row_lt_rows { row < z.rows }
-    requires column_lt_columns { column < z.columns }
-    requires slots_len { length slots.old ≡ slot_count z * 3 }
-    ensures value { result ≡ saw_nothing }
-    ensures slots_after { slots.new ≡ with_slot slots.old (slot_index z row column) s }
-{
-    set_slot(slots, slot_index(z, row, column), s);
-    saw_nothing()
-}
-
-// A place and the key that stands there, as place i of the path.
-fn pick(z: Sizes, slots: &[u32], path: &mut [u32], i: u32, row: u32, column: u32) -> Seen
-    requires fits { Fits z }
-    requires row_lt_rows { row < z.rows }
-    requires column_lt_columns { column < z.columns }
-    requires slots_len { length slots.now ≡ slot_count z * 3 }
-    requires i_in_bounds { i * 3 + 2 < length path.old }
-    ensures value { result ≡ saw_nothing }
-    ensures path_after { path.new ≡ with_place path.old i (place_in z slots.now row column) }
-{
-    let s = slot_at(slots, slot_index(z, row, column));
-    set_place(
-        path,
-        i as usize,
-        Place {
-            row,
-            column,
-            key: s.key,
-        },
-    );
-    saw_nothing()
 }
 
 // The row that the first pick's byte names.
@@ -121,91 +40,146 @@ fn row_picked(byte: u8, one: u32, two: u32) -> u32
     if byte % 2 == 0 { one } else { two }
 }
 
-// The first pick.
-fn do_pick_one(z: Sizes, byte: u8, slots: &[u32], path: &mut [u32], one: u32, two: u32) -> Seen
-    requires fits { Fits z }
-    requires one_lt_rows { one < z.rows }
-    requires two_lt_rows { two < z.rows }
-    requires slots_len { length slots.now ≡ slot_count z * 3 }
-    requires in_bounds { 2 < length path.old }
-    ensures value { result ≡ saw_nothing }
-    ensures path_after { path.new ≡ with_place path.old 0 (place_in z slots.now (cond (eqb (byte % 2) 0) one two) (byte / 2 % z.columns)) }
-{
-    let row = row_picked(byte, one, two);
-    let half = (byte / 2) as u32;
-    pick(z, slots, path, 0, row, half % z.columns)
-}
+impl LentMemory<'_> {
+    ghost use Rattle.places.specs.Table.{slot_index};
+    ghost use Rattle.slots.specs.Slot.{with_slot};
+    ghost use Rattle.paths.specs.Path.{path_places, with_place};
+    ghost use Rattle.machine.specs.Steps.{slot_in, place_of, with_slots, with_path, perform};
+    ghost use Rattle.acts.specs.Fitting.{ActFits, can_move};
+    ghost use Rattle.acts.specs.Lent.{memory_of, Becomes, Performs};
 
-// A pick of the search.
-fn do_pick_from(z: Sizes, byte: u8, slots: &[u32], path: &mut [u32], row: u32, i: u32) -> Seen
-    requires fits { Fits z }
-    requires row_lt_rows { row < z.rows }
-    requires slots_len { length slots.now ≡ slot_count z * 3 }
-    requires i_in_bounds { i * 3 + 2 < length path.old }
-    ensures value { result ≡ saw_nothing }
-    ensures path_after { path.new ≡ with_place path.old i (place_in z slots.now row (byte % z.columns)) }
-{
-    let all = byte as u32;
-    pick(z, slots, path, i, row, all % z.columns)
-}
-
-// A pair still stands where it was seen, and the free place is empty.
-fn can_move(z: Sizes, slots: &[u32], from: Place, row: u32, column: u32) -> bool
-    requires fits { Fits z }
-    requires row_lt_rows { from.row < z.rows }
-    requires column_lt_columns { from.column < z.columns }
-    requires row_lt_rows_2 { row < z.rows }
-    requires column_lt_columns_2 { column < z.columns }
-    requires slots_len { length slots.now ≡ slot_count z * 3 }
-    ensures { result ≡ can_move z slots.now from row column }
-{
-    look_for_key(z, slots, from.row, from.column, from.key) & look_for_room(z, slots, row, column)
-}
-
-// A swing: the pair moves, or the step skips.
-fn do_move(z: Sizes, slots: &mut [u32], from: Place, row: u32, column: u32) -> Seen
-    requires fits { Fits z }
-    requires row_lt_rows { from.row < z.rows }
-    requires column_lt_columns { from.column < z.columns }
-    requires row_lt_rows_2 { row < z.rows }
-    requires column_lt_columns_2 { column < z.columns }
-    requires slots_len { length slots.old ≡ slot_count z * 3 }
-    ensures value { result ≡ saw_nothing }
-    ensures slots_after { slots.new ≡ swung z slots.old from row column }
-{
-    if can_move(z, slots, from, row, column) {
-        let source = slot_index(z, from.row, from.column);
-        let target = slot_index(z, row, column);
-        let pair = slot_at(slots, source);
-        set_slot(slots, source, empty_slot());
-        set_slot(slots, target, pair);
-        return saw_nothing();
+    // The slot of that row and column.
+    fn slot(&self, row: u32, column: u32) -> Slot
+        requires row_lt_rows { row < self.now.z.sizes.rows }
+        requires column_lt_columns { column < self.now.z.sizes.columns }
+        ensures { result ≡ slot_in self.now.z.sizes (memory_of self.now) row column }
+    {
+        Slots {
+            z: self.z,
+            numbers: self.slots,
+        }
+        .at(row, column)
     }
-    saw_nothing()
-}
 
-// What an act does to the lent memory, and what it sees; byte is for picks.
-pub fn perform(
-    z: Sizes,
-    act: Act,
-    byte: u8,
-    slots: &mut [u32],
-    locks: &mut [u32],
-    path: &mut [u32],
-) -> Seen
-    requires fits { Fits z }
-    requires memory_fits { MemoryFits z (memory slots.old locks.old path.old) }
-    requires act_fits { ActFits z (memory slots.old locks.old path.old) act }
-    ensures { Performs result slots.new locks.new path.new (perform z act byte (memory slots.old locks.old path.old)) }
-{
-    match act {
-        Act::Rest => saw_nothing(),
-        Act::Try(k, g) => do_try(locks, k, g),
-        Act::Release(k, mode, tail) => do_release(locks, path, k, mode, tail),
-        Act::Look(row, column) => do_look(z, slots, row, column),
-        Act::Store(row, column, s) => do_store(z, slots, row, column, s),
-        Act::PickOne(one, two) => do_pick_one(z, byte, slots, path, one, two),
-        Act::PickFrom(row, i) => do_pick_from(z, byte, slots, path, row, i),
-        Act::Move(from, row, column) => do_move(z, slots, from, row, column),
+    // The write of that slot.
+    #[tactic(auto, using(places::proofs::Limits::slot_in_lem))]
+    fn set_slot(&mut self, row: u32, column: u32, s: Slot)
+        requires row_lt_rows { row < self.old.z.sizes.rows }
+        requires column_lt_columns { column < self.old.z.sizes.columns }
+        ensures { Becomes self.old self.new (with_slots (memory_of self.old) (with_slot self.old.slots.now (slot_index self.old.z.sizes row column) s)) }
+    {
+        set_slot(self.slots, self.z.slot_index(row, column), s);
+    }
+
+    // The place of that row and column and the key that stands there, as place i of the path.
+    fn pick(&mut self, i: u32, row: u32, column: u32)
+        requires i_in_path { i < path_places self.old.z.sizes }
+        requires row_lt_rows { row < self.old.z.sizes.rows }
+        requires column_lt_columns { column < self.old.z.sizes.columns }
+        ensures { Becomes self.old self.new (with_path (memory_of self.old) (with_place self.old.path.now i (place_of self.old.z.sizes (memory_of self.old) row column))) }
+    {
+        let key = self.slot(row, column).key;
+        set_place(self.path, i as usize, Place { row, column, key });
+    }
+
+    // A pair still stands where it was seen, and the free place is empty.
+    fn can_move(&self, from: Place, row: u32, column: u32) -> bool
+        requires { ActFits self.now.z.sizes (memory_of self.now) (Act.Move from row column) }
+        ensures { result ≡ can_move self.now.z.sizes self.now.slots.now from row column }
+    {
+        self.slot(from.row, from.column).holds_key(from.key) && self.slot(row, column).is_empty()
+    }
+
+    // One step of taking lock k.
+    fn take(&mut self, k: u32, g: Grab) -> Seen
+        requires { ActFits self.old.z.sizes (memory_of self.old) (Act.Try k g) }
+        ensures { Performs result self.old self.new (perform self.old.z.sizes (Act.Try k g) 0 (memory_of self.old)) }
+    {
+        Seen {
+            tried: take_step(self.locks, k as usize, g),
+            slot: Slot::empty(),
+        }
+    }
+
+    // The release of lock k.
+    fn release(&mut self, k: u32, mode: Mode, tail: Tail) -> Seen
+        requires { ActFits self.old.z.sizes (memory_of self.old) (Act.Release k mode tail) }
+        ensures { Performs result self.old self.new (perform self.old.z.sizes (Act.Release k mode tail) 0 (memory_of self.old)) }
+    {
+        release(self.locks, k as usize, mode);
+        trim(self.path, tail);
+        Seen::default()
+    }
+
+    // A look at one slot.
+    fn look(&self, row: u32, column: u32) -> Seen
+        requires { ActFits self.now.z.sizes (memory_of self.now) (Act.Look row column) }
+        ensures { Performs result self.now self.now (perform self.now.z.sizes (Act.Look row column) 0 (memory_of self.now)) }
+    {
+        Seen {
+            tried: None,
+            slot: self.slot(row, column),
+        }
+    }
+
+    // The write of one slot.
+    fn store(&mut self, row: u32, column: u32, s: Slot) -> Seen
+        requires { ActFits self.old.z.sizes (memory_of self.old) (Act.Store row column s) }
+        ensures { Performs result self.old self.new (perform self.old.z.sizes (Act.Store row column s) 0 (memory_of self.old)) }
+    {
+        self.set_slot(row, column, s);
+        Seen::default()
+    }
+
+    // The first pick: a place of one of the two rows begins the path.
+    fn pick_one(&mut self, one: u32, two: u32, byte: u8) -> Seen
+        requires { ActFits self.old.z.sizes (memory_of self.old) (Act.PickOne one two) }
+        ensures { Performs result self.old self.new (perform self.old.z.sizes (Act.PickOne one two) byte (memory_of self.old)) }
+    {
+        self.pick(
+            0,
+            row_picked(byte, one, two),
+            u32::from(byte / 2) % self.z.sizes.columns,
+        );
+        Seen::default()
+    }
+
+    // A pick of the search: a place of that row, as place i of the path.
+    fn pick_from(&mut self, row: u32, i: u32, byte: u8) -> Seen
+        requires { ActFits self.old.z.sizes (memory_of self.old) (Act.PickFrom row i) }
+        ensures { Performs result self.old self.new (perform self.old.z.sizes (Act.PickFrom row i) byte (memory_of self.old)) }
+    {
+        self.pick(i, row, u32::from(byte) % self.z.sizes.columns);
+        Seen::default()
+    }
+
+    // A swing: the pair moves, or the step skips.
+    fn swing(&mut self, from: Place, row: u32, column: u32) -> Seen
+        requires { ActFits self.old.z.sizes (memory_of self.old) (Act.Move from row column) }
+        ensures { Performs result self.old self.new (perform self.old.z.sizes (Act.Move from row column) 0 (memory_of self.old)) }
+    {
+        if self.can_move(from, row, column) {
+            let pair = self.slot(from.row, from.column);
+            self.set_slot(from.row, from.column, Slot::empty());
+            self.set_slot(row, column, pair);
+        }
+        Seen::default()
+    }
+
+    // What an act does to the memory, and what it sees; byte is for picks.
+    pub fn perform(&mut self, act: Act, byte: u8) -> Seen
+        requires { ActFits self.old.z.sizes (memory_of self.old) act }
+        ensures { Performs result self.old self.new (perform self.old.z.sizes act byte (memory_of self.old)) }
+    {
+        match act {
+            Act::Rest => Seen::default(),
+            Act::Try(k, g) => self.take(k, g),
+            Act::Release(k, mode, tail) => self.release(k, mode, tail),
+            Act::Look(row, column) => self.look(row, column),
+            Act::Store(row, column, s) => self.store(row, column, s),
+            Act::PickOne(one, two) => self.pick_one(one, two, byte),
+            Act::PickFrom(row, i) => self.pick_from(row, i, byte),
+            Act::Move(from, row, column) => self.swing(from, row, column),
+        }
     }
 }

@@ -5,5 +5,5 @@
 mod acts;
 mod doing;
 
-pub use acts::{act_of, path_length};
-pub use doing::perform;
+pub use acts::{Turn, path_length};
+pub use doing::LentMemory;

@@ -1,26 +1,64 @@
-// How long the lent memory is.
+// Lent memory before a call: its sizes and lengths, and whether it stands.
 ghost use Rattle.std.specs.Prelude.{◌≡◌};
-ghost use Rattle.places.specs.Table.{Fits};
+ghost use Rattle.std.specs.Result.{result_map_both};
 ghost use Rattle.machine.specs.Desk.{lengths_ok};
 ghost use Rattle.standing.specs.Tables.{table};
+ghost use Rattle.desk.specs.Tests.{sized, tested};
 
-use places::{Sizes, slot_count};
+use machine::Refusal;
+use places::{Layout, Sizes};
 use records::LANE_NUMBERS;
+use standing::Lent;
 
-// Every lent length is what the sizes need: where not, refusal 2.
-pub(super) fn lengths_ok(
+// Every lent length is what the sizes need.
+fn lengths_ok(z: Layout, slots: &[u32], locks: &[u32], lanes: &[u32], path: &[u32]) -> bool
+    ensures { result ≡ lengths_ok z.sizes (table slots.now locks.now lanes.now path.now) }
+{
+    (slots.len() == z.slot_count() * 3)
+        & (locks.len() == ((z.sizes.locks as usize) + 1) * 2)
+        & (lanes.len() == (z.sizes.lanes as usize) * LANE_NUMBERS)
+        & (path.len() == ((z.sizes.rows as usize) + 2) * 3)
+}
+
+// The layout of lent memory: refusals 1 and 2, in that order.
+#[tactic(auto, using(crate::proofs::Tested::laid, crate::proofs::Tested::unlaid), unfolding(crate::specs::Tests::sized))]
+pub(super) fn layout_of(
     z: Sizes,
     slots: &[u32],
     locks: &[u32],
     lanes: &[u32],
     path: &[u32],
-) -> bool
-    requires { Fits z }
-    ensures { result ≡ lengths_ok z (table slots.now locks.now lanes.now path.now) }
+) -> Result<Layout, Refusal>
+    ensures { result_map_both (λ l. l.sizes) (λ r. r) result ≡ sized z (table slots.now locks.now lanes.now path.now) }
 {
-    let n = slot_count(z);
-    (slots.len() == n * 3)
-        & (locks.len() == ((z.locks as usize) + 1) * 2)
-        & (lanes.len() == (z.lanes as usize) * LANE_NUMBERS)
-        & (path.len() == ((z.rows as usize) + 2) * 3)
+    let z = Layout::new(z).ok_or(Refusal::BadSizes)?;
+    if !lengths_ok(z, slots, locks, lanes, path) {
+        return Err(Refusal::BadLengths);
+    }
+    Ok(z)
+}
+
+// The layout of a table that stands: refusals 1, 2 and 9, in that order.
+#[tactic(auto, using(crate::proofs::Tested::sized_ok, crate::proofs::Tested::sized_long), unfolding(crate::specs::Tests::sized, crate::specs::Tests::tested))]
+pub(super) fn upright(
+    z: Sizes,
+    slots: &[u32],
+    locks: &[u32],
+    lanes: &[u32],
+    path: &[u32],
+) -> Result<Layout, Refusal>
+    ensures { result_map_both (λ l. l.sizes) (λ r. r) result ≡ tested z (table slots.now locks.now lanes.now path.now) }
+{
+    let z = layout_of(z, slots, locks, lanes, path)?;
+    let lent = Lent {
+        z,
+        slots,
+        locks,
+        lanes,
+        path,
+    };
+    if !lent.stands() {
+        return Err(Refusal::NotStanding);
+    }
+    Ok(z)
 }

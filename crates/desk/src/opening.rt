@@ -4,21 +4,21 @@ ghost use Rattle.paths.specs.Path.{emptied};
 ghost use Rattle.standing.specs.Tables.{table};
 ghost use Rattle.desk.specs.Calls.{OpensTo};
 
-use super::lent::lengths_ok;
-use machine::Opened;
-use paths::empty_path;
-use places::{Sizes, sizes_ok};
-use slots::{Checked, check};
+use super::lent::layout_of;
+use machine::Refusal;
+use places::Sizes;
+use slots::Slots;
 
 // Every lent number but the slots becomes 0.
+#[tactic(auto, unfolding(paths::specs::Path::emptied))]
 fn clear(locks: &mut [u32], lanes: &mut [u32], path: &mut [u32])
     ensures locks_after { locks.new ≡ emptied locks.old }
     ensures lanes_after { lanes.new ≡ emptied lanes.old }
     ensures path_after { path.new ≡ emptied path.old }
 {
-    empty_path(locks);
-    empty_path(lanes);
-    empty_path(path);
+    locks.fill(0);
+    lanes.fill(0);
+    path.fill(0);
 }
 
 // Opens a table over lent memory: refusals 1 to 5, in that order.
@@ -28,23 +28,12 @@ pub fn open(
     locks: &mut [u32],
     lanes: &mut [u32],
     path: &mut [u32],
-) -> Opened
+) -> Result<(), Refusal>
     ensures { OpensTo z (table slots.now locks.old lanes.old path.old) result (table slots.now locks.new lanes.new path.new) }
 {
-    if !sizes_ok(z) {
-        return Opened::OpenBadSizes;
-    }
-    if !lengths_ok(z, slots, locks, lanes, path) {
-        return Opened::OpenBadLengths;
-    }
-    let found = check(z, slots);
-    match found {
-        Checked::Sound => {
-            clear(locks, lanes, path);
-            Opened::OpenAccepted
-        }
-        Checked::Misshapen(i) => Opened::OpenMisshapen(i),
-        Checked::Astray(i) => Opened::OpenAstray(i),
-        Checked::Twice(i) => Opened::OpenTwice(i),
-    }
+    let z = layout_of(z, slots, locks, lanes, path)?;
+    let slots = Slots { z, numbers: slots };
+    slots.check()?;
+    clear(locks, lanes, path);
+    Ok(())
 }

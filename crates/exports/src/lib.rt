@@ -4,13 +4,13 @@
 
 ghost use Rattle.std.specs.Prelude.{◌≡◌, ◌≤◌};
 ghost use Rattle.machine.specs.Lane.{lane_numbers};
-ghost use Rattle.machine.specs.Desk.{opened_number, opening_number, after_opening, start_number, start_answer, after_start, answer_numbers, step_numbers, step_answer, after_step};
+ghost use Rattle.machine.specs.Desk.{opened_number, opening_number, after_opening, start_number, start_answer, after_start, step_numbers, step_answer, after_step};
 ghost use Rattle.standing.specs.Tables.{table};
 ghost use Rattle.desk.specs.Calls.{Calls};
 ghost use Rattle.exports.specs.Door.{as_finding, as_numbers, sizes, max_index};
 
 use desk::{open, start, step};
-use machine::{Answer, Opened, Request, Started, Stepped};
+use machine::{Answer, Refusal, Request};
 use places::Sizes;
 use records::LANE_NUMBERS;
 
@@ -31,107 +31,56 @@ pub struct SgStepped {
     pub value: u32,
 }
 
-fn sizes_of(rows: u32, columns: u32, locks: u32, lanes: u32) -> Sizes
-    ensures { result ≡ sizes rows columns locks lanes }
+// No `From`: it could not ask that the index fits.
+fn opened_of(answer: Result<(), Refusal>) -> SgOpened
+    requires { (opened_number answer).index ≤ max_index }
+    ensures { as_finding result ≡ opened_number answer }
 {
-    Sizes {
-        rows,
-        columns,
-        locks,
-        lanes,
-    }
-}
-
-fn opened_of(o: Opened) -> SgOpened
-    requires { (opened_number o).index ≤ max_index }
-    ensures { as_finding result ≡ opened_number o }
-{
-    match o {
-        Opened::OpenAccepted => SgOpened {
+    match answer {
+        Ok(()) => SgOpened {
             number: 0,
             index: 0,
         },
-        Opened::OpenBadSizes => SgOpened {
-            number: 1,
-            index: 0,
-        },
-        Opened::OpenBadLengths => SgOpened {
-            number: 2,
-            index: 0,
-        },
-        Opened::OpenMisshapen(i) => SgOpened {
-            number: 3,
-            index: i as u32,
-        },
-        Opened::OpenAstray(i) => SgOpened {
-            number: 4,
-            index: i as u32,
-        },
-        Opened::OpenTwice(i) => SgOpened {
-            number: 5,
-            index: i as u32,
+        Err(refusal) => SgOpened {
+            number: refusal.number(),
+            index: refusal.index() as u32,
         },
     }
 }
 
-fn started_of(s: Started) -> u32
-    ensures { result ≡ start_number s }
-{
-    match s {
-        Started::StartAccepted => 0,
-        Started::StartBadSizes => 1,
-        Started::StartBadLengths => 2,
-        Started::StartNotStanding => 9,
-        Started::StartNoLane => 6,
-        Started::StartBusy => 7,
-        Started::StartBadKey => 10,
+impl From<Result<Answer, Refusal>> for SgStepped {
+    ghost from_gives = { λ answer numbers. as_numbers numbers ≡ step_numbers answer };
+
+    fn from(answer: Result<Answer, Refusal>) -> SgStepped {
+        let (number, end, value) = match answer {
+            Ok(Answer::GoesOn) => (0, 0, 0),
+            Ok(Answer::ReadNone) => (0, 1, 0),
+            Ok(Answer::ReadValue(value)) => (0, 2, value),
+            Ok(Answer::Deleted) => (0, 3, 0),
+            Ok(Answer::InsertYes) => (0, 4, 0),
+            Ok(Answer::InsertSearched) => (0, 5, 0),
+            Ok(Answer::InsertWalked) => (0, 6, 0),
+            Err(refusal) => (refusal.number(), 0, 0),
+        };
+        SgStepped { number, end, value }
     }
 }
 
-fn ended(end: u32, value: u32) -> SgStepped
-    ensures { as_numbers result ≡ record { number = 0; end = end; value = value } }
+// A start of what is asked, as its number.
+fn started(
+    z: Sizes,
+    slots: &[u32],
+    words: &[u32],
+    records: &mut [u32],
+    path: &[u32],
+    lane: u32,
+    request: Request,
+) -> u32
+    ensures { Calls result (start_number (start_answer z (table slots.now words.now records.old path.now) lane request)) (table slots.now words.now records.new path.now) (after_start z (table slots.now words.now records.old path.now) lane request) }
 {
-    SgStepped {
-        number: 0,
-        end,
-        value,
-    }
-}
-
-fn refused(number: u32) -> SgStepped
-    ensures { as_numbers result ≡ record { number = number; end = 0; value = 0 } }
-{
-    SgStepped {
-        number,
-        end: 0,
-        value: 0,
-    }
-}
-
-fn answer_of(a: Answer) -> SgStepped
-    ensures { as_numbers result ≡ answer_numbers a }
-{
-    match a {
-        Answer::GoesOn => ended(0, 0),
-        Answer::ReadNone => ended(1, 0),
-        Answer::ReadValue(value) => ended(2, value),
-        Answer::Deleted => ended(3, 0),
-        Answer::InsertYes => ended(4, 0),
-        Answer::InsertSearched => ended(5, 0),
-        Answer::InsertWalked => ended(6, 0),
-    }
-}
-
-fn stepped_of(s: Stepped) -> SgStepped
-    ensures { as_numbers result ≡ step_numbers s }
-{
-    match s {
-        Stepped::StepDone(a) => answer_of(a),
-        Stepped::StepBadSizes => refused(1),
-        Stepped::StepBadLengths => refused(2),
-        Stepped::StepNotStanding => refused(9),
-        Stepped::StepNoLane => refused(6),
-        Stepped::StepIdle => refused(8),
+    match start(z, slots, words, records, path, lane, request) {
+        Ok(()) => 0,
+        Err(refusal) => refusal.number(),
     }
 }
 
@@ -157,7 +106,12 @@ pub extern "C" fn sg_open(
 ) -> SgOpened
     ensures { Calls (as_finding result) (opening_number (sizes rows columns locks lanes) (table slots.old words.old records.old path.old)) (table slots.new words.new records.new path.new) (after_opening (sizes rows columns locks lanes) (table slots.old words.old records.old path.old)) }
 {
-    let z = sizes_of(rows, columns, locks, lanes);
+    let z = Sizes {
+        rows,
+        columns,
+        locks,
+        lanes,
+    };
     opened_of(open(z, slots, words, records, path))
 }
 
@@ -177,8 +131,13 @@ pub extern "C" fn sg_start_read(
 ) -> u32
     ensures { Calls result (start_number (start_answer (sizes rows columns locks lanes) (table slots.old words.old records.old path.old) lane (Request.AskRead key))) (table slots.new words.new records.new path.new) (after_start (sizes rows columns locks lanes) (table slots.old words.old records.old path.old) lane (Request.AskRead key)) }
 {
-    let z = sizes_of(rows, columns, locks, lanes);
-    started_of(start(z, slots, words, records, path, lane, Request::AskRead(key)))
+    let z = Sizes {
+        rows,
+        columns,
+        locks,
+        lanes,
+    };
+    started(z, slots, words, records, path, lane, Request::AskRead(key))
 }
 
 // Starts a delete of a key on a lane.
@@ -197,8 +156,13 @@ pub extern "C" fn sg_start_delete(
 ) -> u32
     ensures { Calls result (start_number (start_answer (sizes rows columns locks lanes) (table slots.old words.old records.old path.old) lane (Request.AskDelete key))) (table slots.new words.new records.new path.new) (after_start (sizes rows columns locks lanes) (table slots.old words.old records.old path.old) lane (Request.AskDelete key)) }
 {
-    let z = sizes_of(rows, columns, locks, lanes);
-    started_of(start(
+    let z = Sizes {
+        rows,
+        columns,
+        locks,
+        lanes,
+    };
+    started(
         z,
         slots,
         words,
@@ -206,7 +170,7 @@ pub extern "C" fn sg_start_delete(
         path,
         lane,
         Request::AskDelete(key),
-    ))
+    )
 }
 
 // Starts an insert of a key and a value on a lane.
@@ -226,8 +190,13 @@ pub extern "C" fn sg_start_insert(
 ) -> u32
     ensures { Calls result (start_number (start_answer (sizes rows columns locks lanes) (table slots.old words.old records.old path.old) lane (Request.AskInsert key value))) (table slots.new words.new records.new path.new) (after_start (sizes rows columns locks lanes) (table slots.old words.old records.old path.old) lane (Request.AskInsert key value)) }
 {
-    let z = sizes_of(rows, columns, locks, lanes);
-    started_of(start(
+    let z = Sizes {
+        rows,
+        columns,
+        locks,
+        lanes,
+    };
+    started(
         z,
         slots,
         words,
@@ -235,7 +204,7 @@ pub extern "C" fn sg_start_insert(
         path,
         lane,
         Request::AskInsert(key, value),
-    ))
+    )
 }
 
 // Does one step of a lane; byte is the scheduler's.
@@ -254,6 +223,11 @@ pub extern "C" fn sg_step(
 ) -> SgStepped
     ensures { Calls (as_numbers result) (step_numbers (step_answer (sizes rows columns locks lanes) (table slots.old words.old records.old path.old) lane byte)) (table slots.new words.new records.new path.new) (after_step (sizes rows columns locks lanes) (table slots.old words.old records.old path.old) lane byte) }
 {
-    let z = sizes_of(rows, columns, locks, lanes);
-    stepped_of(step(z, slots, words, records, path, lane, byte))
+    let z = Sizes {
+        rows,
+        columns,
+        locks,
+        lanes,
+    };
+    step(z, slots, words, records, path, lane, byte).into()
 }

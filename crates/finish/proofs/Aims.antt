@@ -3,11 +3,11 @@
 use mathlib.Core.Path.{◌≡◌, refl, subst}
 use Prim.Native.Nat.{ℕ, ◌+◌, ◌<◌}
 use native.Mathlib.Omega.{arith}
+use Rattle.std.specs.Prelude.{Some}
 use Rattle.places.specs.declared.Sizes.{Sizes}
 use Rattle.places.specs.Table.{Fits, lock_of}
 use Rattle.places.proofs.Locking.{lock_in}
 use Rattle.locks.specs.declared.Grab.{Grab}
-use Rattle.locks.specs.declared.Tried.TheVariants.{Waits}
 use Rattle.paths.specs.declared.Place.{Place}
 use Rattle.paths.specs.Path.{other_row}
 use Rattle.machine.specs.declared.Side.TheVariants.{First, Second}
@@ -89,7 +89,7 @@ pub record Same (z : Sizes) (l : Lane) (last : Place) (s : Stage) (k : ℕ) (g :
   pub op : l'.op ≡ l.op
   pub path : path_length l'.stage ≡ path_length s
 
-pub takes_on : {z : Sizes} {l : Lane} {last : Place} {s : Stage} {k : ℕ} {g : Grab} → Takes z l last s k g → (seen : Seen) (g' : Grab) → seen.tried ≡ Waits g' → Same z l last s k g' (advance_at z l last seen s).lane
+pub takes_on : {z : Sizes} {l : Lane} {last : Place} {s : Stage} {k : ℕ} {g : Grab} → Takes z l last s k g → (seen : Seen) (g' : Grab) → seen.tried ≡ Some g' → Same z l last s k g' (advance_at z l last seen s).lane
 unfolding act_at advance_at
 takes_on at_main seen g' e = rw e record { act = refl; op = refl; path = refl }
 takes_on at_first seen g' e = rw e record { act = refl; op = refl; path = refl }

@@ -7,7 +7,7 @@ use native.Mathlib.Nat.{not-suc-le-zero}
 use native.Mathlib.Decide.{ℕ_discrete, dec_le}
 use native.Mathlib.Omega.{arith}
 use lib.Dec.{leb}
-use borrow.Author.Tests.{leb-true, le-leb}
+use borrow.Author.Tests.{leb-true}
 use Rattle.lists.specs.Below.{all_below, first_below}
 use Rattle.lists.proofs.Below.{all_at, all_from, any_none, first_stop, Sought, found, nowhere, seek}
 use Rattle.places.specs.declared.Sizes.{Sizes}
@@ -39,7 +39,7 @@ module _ (n : ℕ) (f : ℕ → ℕ) where
   tops i = all_below n (λ j. leb (f j) (f i))
 
   greatest_tops : (g : Greatest n f) → tops g.at ≡ true
-  greatest_tops g = all_from (λ j. leb (f j) (f g.at)) n (λ j l. le-leb (f j) (f g.at) (g.most j l))
+  greatest_tops g = grind (arith, all_from)
 
   first_greatest : Greatest n f → (first_below n tops < n) × ((j : ℕ) → j < n → f j ≤ f (first_below n tops))
   first_greatest g = go (seek n tops)

@@ -8,11 +8,9 @@ use native.Mathlib.Omega.{arith}
 use Rattle.lists.proofs.Sums.{sum_none}
 use Rattle.places.specs.declared.Sizes.{Sizes}
 use Rattle.locks.specs.declared.Part.{Part}
-use Rattle.locks.specs.Locks.{lock_at, part_flag, part_count}
+use Rattle.locks.specs.Locks.{lock_at}
 use Rattle.paths.specs.Path.{path_places, place_at, no_place}
-use Rattle.machine.specs.declared.Lane.{Lane}
 use Rattle.machine.specs.Lane.{lane_at, idle_lane}
-use Rattle.machine.specs.Steps.{path_length}
 use Rattle.machine.specs.Claims.{is_idle_op}
 use Rattle.machine.specs.Standing.{Table, last_at}
 use Rattle.machine.specs.Desk.{step_answer, step_numbers, after_step}
@@ -20,7 +18,7 @@ use Rattle.kept.specs.Runs.{Stood}
 use Rattle.kept.proofs.Facts.{parts, used}
 use Rattle.kept.proofs.Checked.{StandsIn, standing_facts}
 use Rattle.kept.proofs.Fresh.{idle_share}
-use Rattle.machine.proofs.Shift.{Measure, flag_measure, count_measure}
+use Rattle.machine.proofs.Shift.{Measure}
 use Rattle.kept.proofs.Starting.{idle_lane_lem}
 use Rattle.finish.specs.Finish.{after_all, is_busy}
 use Rattle.finish.specs.Weight.{weight}
@@ -62,10 +60,10 @@ module _ (z : Sizes) (t : Table) (st : Stood z t) (idle : (j : ℕ) → j < z.la
   no_parts f μ k = sum_none z.lanes _ (λ j h. rw (lane_is j h) (idle_share z f μ no_place k))
 
   free : (k : ℕ) → k < z.locks + 1 → lock_at t.locks k ≡ record { flag = 0; count = 0 }
-  free k h = λ x. record { flag = ((facts.locks k h).flag_is ∙ no_parts part_flag flag_measure k) x; count = ((facts.locks k h).count_is ∙ no_parts part_count count_measure k) x }
+  free k h = grind (arith, facts, no_parts)
 
   no_places : used z (lane_at t.lanes) ≡ 0
-  no_places = sum_none z.lanes _ (λ j h. ap (λ (l : Lane). path_length l.stage) (lane_is j h))
+  no_places = grind (arith, sum_none, lane_is)
 
   pub all_free : ((k : ℕ) → k < z.locks + 1 → lock_at t.locks k ≡ record { flag = 0; count = 0 }) × ((i : ℕ) → i < path_places z → place_at t.path i ≡ no_place)
   all_free = (free, λ i h. facts.path.rest i (omega (arith, no_places)) h)

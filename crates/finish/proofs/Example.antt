@@ -69,7 +69,7 @@ steps_reached u (c ∷ cs) r a = steps_reached (after_step z u c.lane c.byte) cs
 
 all_accepted : ((opening_number z lent).number ≡ 0) × (start_number (start_answer z empty 0 (AskInsert 0 7)) ≡ 0) × (start_number (start_answer z one 1 (AskInsert 0 8)) ≡ 0) × (start_number (start_answer z two 2 (AskRead 0)) ≡ 0) × Accepted z three (calls knotted)
 unfolding sum_below all_below any_below first_from cell put lock_order in_limits sizes_ok slot_index slot_count row_at home_one home_two lock_of slot_at with_slot holds bad_shape strays stands_below fault_of is_faulty sound opening_fault lock_at with_lock try_lock released place_at with_place emptied last_of other_row grip_at claims_at numbers_of lane_at with_lane decodes act_at perform advance_at step_lane lengths_ok opened opening_number after_opening start_answer started after_start turned step_answer after_step lock_stands place_stands linked unused path_stands row_stands slot_stands lane_stands standing
-all_accepted = (refl, refl, refl, refl, (refl, (refl, (refl, (refl, (refl, (refl, (refl, (refl, tt)))))))))
+all_accepted = grind arith
 
 pub knot_reached : Reached z knot
 knot_reached =

@@ -1,20 +1,19 @@
 -- What a step takes off its lane's weight, by cases on the way it goes: 1 at least, and at a grab as the lock's answer says.
 -- Assumes nothing.
 use mathlib.Core.Path.{◌≡◌}
-use mathlib.Core.Bool.{true, false≢true}
+use mathlib.Core.Bool.{true}
 use Prim.Native.Nat.{ℕ, ◌+◌, ◌-◌, ◌≤◌, ◌<◌}
 use native.Mathlib.Omega.{arith}
 use lib.Dec.{ltb}
 use borrow.Author.Tests.{ltb-true, ltb-false, leb-true, eqb-true}
+use Rattle.std.specs.Prelude.{Option}
 use Rattle.lists.proofs.Below.{Each}
 use Rattle.places.specs.declared.Sizes.{Sizes}
+use Rattle.locks.specs.declared.Grab.{Grab}
 use Rattle.locks.specs.declared.Mode.{Mode}
-use Rattle.locks.specs.declared.Mode.TheVariants.{Reading, Writing}
-use Rattle.locks.specs.declared.Tried.{Tried}
 use Rattle.locks.specs.Locks.{grab_of}
 use Rattle.paths.specs.declared.Place.{Place}
 use Rattle.machine.specs.declared.Op.{Op}
-use Rattle.machine.specs.declared.Op.TheVariants.{NoOp, Read, Delete, Insert, Again}
 use Rattle.machine.specs.declared.Outcome.{Outcome}
 use Rattle.machine.specs.declared.Stage.{Stage}
 use Rattle.machine.specs.declared.Lane.{Lane}
@@ -23,7 +22,7 @@ use Rattle.machine.specs.declared.Seen.{Seen}
 use Rattle.machine.specs.declared.Moved.{Moved}
 use Rattle.machine.specs.Steps.{mode_of, act_at}
 use Rattle.machine.specs.Claims.{is_first_pass, outcome_in, stage_in}
-use Rattle.machine.proofs.Ways.{Leaves, leaves_hit, leaves_ended, leaves_wrote, leaves_filled, leaves_miss, leaves_picked, leaves_stuck, Swings, swings_again, swings_on, Goes, rests, main_waits, main_held, first_waits, first_held, first_read, first_hit, first_more, first_shared, first_apart, second_waits, second_held, second_read, second_hit, second_more, second_miss, second_room, room_first, room_first_more, room_first_full, room_second, room_second_more, room_pick, room_stuck, wrote_hit, wrote_room, picked_first, drops_on, drops_one, drops_two_lem, drops_main, next_waits, next_held, next_free, next_more, next_full, next_picked, next_walk, next_over, next_again, low_waits, low_shared, low_apart, high_waits, high_held, swings, drops_low, drops_both, drops_high}
+use Rattle.machine.proofs.Ways.{Leaves, leaves_hit, leaves_ended, leaves_wrote, leaves_filled, leaves_miss, leaves_picked, leaves_stuck, Swings, Goes, rests, main_waits, main_held, first_waits, first_held, first_read, first_hit, first_more, first_shared, first_apart, second_waits, second_held, second_read, second_hit, second_more, second_miss, second_room, room_first, room_first_more, room_first_full, room_second, room_second_more, room_pick, room_stuck, wrote_hit, wrote_room, picked_first, drops_on, drops_one, drops_two_lem, drops_main, next_waits, next_held, next_free, next_more, next_full, next_picked, next_walk, next_over, next_again, low_waits, low_shared, low_apart, high_waits, high_held, swings, drops_low, drops_both, drops_high}
 use Rattle.finish.specs.Weight.{grab_weight, tried_weight, walk_weight, search_weight, later_weight, stage_weight, weight}
 use Rattle.finish.specs.Schedule.{on_act}
 use Rattle.finish.proofs.Search.{search_next, search_walk}
@@ -32,20 +31,15 @@ use Rattle.finish.proofs.Search.{search_next, search_walk}
 abbrev pub spent : Act → ℕ
 spent a = on_act a 0 (λ k g. grab_weight g) 1
 
-abbrev pub owed : Act → Tried → ℕ
+abbrev pub owed : Act → Option Grab → ℕ
 owed a t = on_act a 0 (λ k g. tried_weight t) 0
 
 fresh_weighs : (m : Mode) → grab_weight (grab_of m) ≤ 3
-fresh_weighs Reading = omega arith
-fresh_weighs Writing = omega arith
+fresh_weighs m = grind arith
 
 -- only an insert's first pass is followed by a search
 first_later : (z : Sizes) (op : Op) → is_first_pass op ≡ true → later_weight z op ≡ search_weight z 0
-first_later z NoOp e = absurd (false≢true e)
-first_later z Read e = absurd (false≢true e)
-first_later z Delete e = absurd (false≢true e)
-first_later z Insert e = λ i. search_weight z 0
-first_later z Again e = absurd (false≢true e)
+first_later z op e = grind arith
 
 module _ (z : Sizes) (l : Lane) (last : Place) (seen : Seen) where
   -- a pass has released its rows
@@ -60,8 +54,7 @@ module _ (z : Sizes) (l : Lane) (last : Place) (seen : Seen) where
 
   -- a swing has released its rows
   swing_falls : (left : ℕ) (m : Moved) → Swings l last left m → weight z m.lane ≤ walk_weight z left
-  swing_falls left m (swings_again e) = omega arith
-  swing_falls left m (swings_on d) = omega arith
+  swing_falls left m h = grind arith
 
   -- a column in range
   column_in_lem : (c : ℕ) → ltb c z.columns ≡ true → c < z.columns

@@ -71,7 +71,7 @@ record Ends (z : Sizes) (t : Table) (cs : List Call) : Type 0 where
 
 -- nobody is left
 at_end : (z : Sizes) (t : Table) → Stood z t → urgency z t (chosen z t) ≡ 0 → Ends z t []
-at_end z t st u = record { accepted = tt; bytes = tt; idle = all_idle_lem z t st u; short = omega arith; each = λ j h. omega arith }
+at_end z t st u = grind (arith, all_idle_lem)
 
 -- a turn that pays takes its steps off the total
 module _ (z : Sizes) (t : Table) (i n : ℕ) (hi : i < z.lanes) (p : Paid z t i n) where

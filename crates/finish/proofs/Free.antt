@@ -1,15 +1,13 @@
 -- The lock that the chosen lane waits for is free for it.
 -- Assumes nothing.
-use mathlib.Core.Path.{◌≡◌, ◌∙◌, refl, ap}
+use mathlib.Core.Path.{◌≡◌, ◌∙◌}
 use Prim.Native.Nat.{ℕ, ◌+◌, ◌*◌, ◌<◌}
 use native.Mathlib.Omega.{arith}
-use borrow.Author.Tests.{eq-eqb}
 use Rattle.lists.proofs.Sums.{sum_none}
 use Rattle.places.specs.declared.Sizes.{Sizes}
 use Rattle.places.specs.Table.{Fits}
 use Rattle.places.proofs.Limits.{ok_fits}
 use Rattle.locks.specs.declared.Grab.{Grab}
-use Rattle.locks.specs.declared.Grab.TheVariants.{R1, R2, R3, R4, W1, W2}
 use Rattle.locks.specs.Locks.{lock_at}
 use Rattle.paths.specs.Path.{last_of}
 use Rattle.machine.specs.declared.Act.TheVariants.{Try}
@@ -17,7 +15,7 @@ use Rattle.machine.specs.Lane.{lane_at}
 use Rattle.machine.specs.Standing.{Table, last_at}
 use Rattle.kept.specs.Runs.{Stood}
 use Rattle.kept.proofs.Checked.{StandsIn, standing_facts}
-use Rattle.finish.specs.Schedule.{rank_of, act_urgency, next_act, urgency, chosen}
+use Rattle.finish.specs.Schedule.{rank_of, next_act, urgency, chosen}
 use Rattle.finish.proofs.Grabs.{Clear}
 use Rattle.finish.proofs.Highest.{no_count, no_flag}
 use Rattle.finish.proofs.Chosen.{chosen_most}
@@ -45,9 +43,4 @@ module _ (z : Sizes) (t : Table) (st : Stood z t) (k : ℕ) (hk : k < z.locks + 
       ∙ sum_none z.lanes _ (λ j h. no_count z fits k hk t.locks (lane_at t.lanes j) (last_at t j) (lane_at t.lanes j).stage (ranges z t st j h).1.1 (omega (arith, u, chosen_most z t fits.lanes_low j h)))
 
   pub clear : (g : Grab) → next_act z t (chosen z t) ≡ Try k g → Clear g (lock_at t.locks k)
-  clear R1 e = flag_clear (ap (act_urgency z t.locks) e)
-  clear (R2 noted) e = λ q. flag_clear (ap (act_urgency z t.locks) e ∙ rw (eq-eqb noted (lock_at t.locks k).count q) refl)
-  clear R3 e = tt
-  clear R4 e = tt
-  clear W1 e = flag_clear (ap (act_urgency z t.locks) e)
-  clear W2 e = count_clear (ap (act_urgency z t.locks) e)
+  clear g e = grind (arith, flag_clear, count_clear)

@@ -3,7 +3,6 @@
 use mathlib.Core.Path.{◌≡◌, refl, ◌∙◌}
 use mathlib.Core.Logic.{◌≢◌}
 use mathlib.Core.List.{List}
-use mathlib.Core.Bool.{true, false≢true}
 use Prim.Native.Nat.{ℕ, ◌+◌, ◌*◌, ◌≤◌, ◌<◌}
 use native.Mathlib.Decide.{ℕ_discrete}
 use native.Mathlib.Omega.{arith}
@@ -19,30 +18,20 @@ use Rattle.locks.specs.declared.Part.TheVariants.{NoPart, Tries, Holds}
 use Rattle.locks.specs.Locks.{lock_at, grab_flag, part_flag, part_count}
 use Rattle.paths.specs.declared.Place.{Place}
 use Rattle.paths.specs.Path.{other_row}
-use Rattle.machine.specs.declared.Op.{Op}
-use Rattle.machine.specs.declared.Op.TheVariants.{NoOp, Read, Delete, Insert, Again}
 use Rattle.machine.specs.declared.Side.TheVariants.{First, Second}
 use Rattle.machine.specs.declared.Stage.{Stage}
 use Rattle.machine.specs.declared.Stage.TheVariants.{Idle}
 use Rattle.machine.specs.declared.Lane.{Lane}
 use Rattle.machine.specs.declared.Act.{Act}
 use Rattle.machine.specs.Steps.{main_lock, mode_of, row_on, shared_rows, swing_rows, act_at}
-use Rattle.machine.specs.Claims.{is_idle_op, main_part, on_lock, share, grip_at, stage_in}
+use Rattle.machine.specs.Claims.{main_part, on_lock, share, grip_at, stage_in}
 use Rattle.machine.proofs.Shift.{Measure, none_at, flag_measure, count_measure}
 use Rattle.finish.specs.Schedule.{rank_of, top_urgency, grab_urgency, act_urgency}
 use Rattle.finish.proofs.Aims.{Takes, at_main, at_first, at_second, at_next, at_low, at_high, Aims, rests, takes, plain, aims}
-use Rattle.finish.proofs.Ranks.{rank_most, not_main, not_below, grab_rank, grab_count_lem, grab_flag_lem}
+use Rattle.finish.proofs.Ranks.{rank_most, grab_rank, grab_count_lem, grab_flag_lem}
 
 off : (k x n : ℕ) → k ≢ x → on_lock k x n ≡ 0
 off k x n d = rw (ne_eqb k x d) refl
-
--- an idle lane has no part in main
-idle_main : (op : Op) → is_idle_op op ≡ true → main_part op ≡ NoPart
-idle_main NoOp e = refl
-idle_main Read e = absurd (false≢true e)
-idle_main Delete e = absurd (false≢true e)
-idle_main Insert e = absurd (false≢true e)
-idle_main Again e = absurd (false≢true e)
 
 -- ---- what a lane that waits for lock a has in a lock that ranks no lower: its grab of a, and nothing that it holds
 
@@ -52,11 +41,11 @@ module _ (z : Sizes) (fits : Fits z) (f : Part → ℕ) (μ : Measure f) (k : �
 
   -- main is below every row lock
   past_main : (row : ℕ) (p : Part) → rank_of z (lock_of z row) ≤ rank_of z k → on_lock k (main_lock z) (f p) ≡ 0
-  past_main row p h = off k (main_lock z) (f p) (not_main z k (lock_of z row) (lock_in z fits row) h)
+  past_main row p h = grind (arith, lock_in)
 
   -- of two rows in locking order the first one's lock is below the second one's
   past_first : (a b : ℕ) (p : Part) → lock_of z a < lock_of z b → rank_of z (lock_of z b) ≤ rank_of z k → on_lock k (lock_of z a) (f p) ≡ 0
-  past_first a b p d h = off k (lock_of z a) (f p) (λ e. omega (arith, not_below z k (lock_of z b) (lock_in z fits b) h))
+  past_first a b p d h = grind (arith, lock_in)
 
   wants : {s : Stage} {a : ℕ} {g : Grab} → Takes z l last s a g → Each (stage_in z l last s) → rank_of z a ≤ rank_of z k → share z f (grip_at z l last s) k ≡ on_lock k a (f (Tries g))
   unfolding grip_at
@@ -80,7 +69,7 @@ module _ (z : Sizes) (fits : Fits z) (f : Part → ℕ) (μ : Measure f) (k : �
   -- an idle lane has no part in any
   idles : Each (stage_in z l last Idle) → share z f (grip_at z l last Idle) k ≡ 0
   unfolding grip_at
-  idles r = rw (idle_main l.op r.0) (omega (arith, none (main_lock z), none (lock_of z (row_on z l.key First)), none (lock_of z (row_on z l.key Second))))
+  idles r = grind arith
 
 -- ---- a lane that is no more urgent than a waiter for lock k has no share in k that its grab has not
 

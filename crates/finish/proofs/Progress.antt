@@ -5,12 +5,12 @@ use mathlib.Core.Logic.{◌≢◌}
 use mathlib.Core.Bool.{Bool, true, false}
 use Prim.Native.Nat.{ℕ, ◌+◌, ◌≤◌, ◌<◌}
 use native.Mathlib.Omega.{arith}
+use Rattle.std.specs.Prelude.{Option}
 use Rattle.lists.proofs.Below.{Each}
 use Rattle.places.specs.declared.Sizes.{Sizes}
 use Rattle.places.specs.Table.{Fits}
 use Rattle.places.proofs.Limits.{ok_fits}
 use Rattle.locks.specs.declared.Grab.{Grab}
-use Rattle.locks.specs.declared.Tried.{Tried}
 use Rattle.locks.specs.Locks.{lock_at}
 use Rattle.machine.specs.declared.Stage.{Stage}
 use Rattle.machine.specs.declared.Stage.TheVariants.{Idle}
@@ -62,7 +62,7 @@ module _ (z : Sizes) (t : Table) (st : Stood z t) where
 
   idle_rests : (lane_at t.lanes i).stage ≡ Idle → urgency z t i ≡ 0
   unfolding act_at
-  idle_rests e = ap (λ (s : Stage). act_urgency z t.locks (act_at z (lane_at t.lanes i) (last_at t i) s)) e
+  idle_rests e = grind arith
 
   module _ (u : urgency z t i ≢ 0) where
     pub chosen_busy : is_idle_op (lane_at t.lanes i).op ≡ false
@@ -85,7 +85,7 @@ module _ (z : Sizes) (t : Table) (st : Stood z t) where
     pub turn_pays : Paid z t i (act_turns t.locks (next_act z t i))
     turn_pays = go (next_act z t i) refl (aims z (lane_at t.lanes i) (last_at t i) (lane_at t.lanes i).stage) (taken_falls z t st i chosen_lane chosen_busy)
       where
-        tried : Tried
+        tried : Option Grab
         tried = (perform z (next_act z t i) 0 (memory_of t)).seen.tried
 
         go : {s : Stage} (a : Act) → next_act z t i ≡ a → Aims z (lane_at t.lanes i) (last_at t i) s a

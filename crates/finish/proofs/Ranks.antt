@@ -2,18 +2,14 @@
 -- Assumes nothing.
 use mathlib.Core.Path.{◌≡◌, refl}
 use mathlib.Core.Logic.{◌≢◌}
-use mathlib.Core.Bool.{Bool, true, false, cond}
 use Prim.Native.Nat.{ℕ, ◌+◌, ◌*◌, ◌≤◌, ◌<◌}
-use native.Mathlib.Decide.{ℕ_discrete}
 use native.Mathlib.Omega.{arith}
-use lib.Dec.{eqb}
 use borrow.Author.Tests.{eq-eqb, ne_eqb}
 use Rattle.places.specs.declared.Sizes.{Sizes}
 use Rattle.locks.specs.declared.Lock.{Lock}
 use Rattle.locks.specs.declared.Grab.{Grab}
-use Rattle.locks.specs.declared.Grab.TheVariants.{R1, R2, R3, R4, W1, W2}
 use Rattle.locks.specs.Locks.{grab_flag, grab_count}
-use Rattle.finish.specs.Schedule.{rank_of, top_urgency, grab_urgency}
+use Rattle.finish.specs.Schedule.{rank_of, grab_urgency}
 
 -- ---- the order of the locks
 
@@ -24,10 +20,7 @@ rank_main : (z : Sizes) (k : ℕ) → k ≡ z.locks → rank_of z k ≡ 0
 rank_main z k e = rw (eq-eqb k z.locks e) refl
 
 pub rank_most : (z : Sizes) (k : ℕ) → k < z.locks + 1 → rank_of z k ≤ z.locks
-rank_most z k h = elim (ℕ_discrete k z.locks) [
-  | yes e ↦ omega (arith, rank_main z k e)
-  | no d ↦ omega (arith, rank_row z k d)
-]
+rank_most z k h = grind arith
 
 -- a row lock that ranks no higher than k: then k is a row lock too, and no lower one
 module _ (z : Sizes) (k a : ℕ) (la : a < z.locks) (h : rank_of z a ≤ rank_of z k) where
@@ -41,43 +34,15 @@ module _ (z : Sizes) (k a : ℕ) (la : a < z.locks) (h : rank_of z a ≤ rank_of
 
 -- every grab has some
 pub grab_urges : (z : Sizes) (w : Lock) (k : ℕ) (g : Grab) → 1 ≤ grab_urgency z w k g
-grab_urges z w k R1 = omega arith
-grab_urges z w k (R2 noted) = go (eqb noted w.count)
-  where
-    go : (b : Bool) → 1 ≤ cond b (2 * rank_of z k + 1) (top_urgency z)
-    go true = omega arith
-    go false = omega arith
-grab_urges z w k R3 = omega arith
-grab_urges z w k R4 = omega arith
-grab_urges z w k W1 = omega arith
-grab_urges z w k W2 = omega arith
+grab_urges z w k g = grind arith
 
 -- a grab that is no more urgent than one that waits at rank r is at a lock that ranks no higher, and counts for nothing;
 -- and if that one waits at the same lock and has not set its flag, it has not either
 pub grab_rank : (z : Sizes) (w : Lock) (a r : ℕ) (g : Grab) → r ≤ z.locks → grab_urgency z w a g ≤ 2 * r + 2 → rank_of z a ≤ r
-grab_rank z w a r R1 h u = omega arith
-grab_rank z w a r (R2 noted) h u = go (eqb noted w.count) u
-  where
-    go : (b : Bool) → cond b (2 * rank_of z a + 1) (top_urgency z) ≤ 2 * r + 2 → rank_of z a ≤ r
-    go true v = omega arith
-    go false v = absurd (omega arith)
-grab_rank z w a r R3 h u = absurd (omega arith)
-grab_rank z w a r R4 h u = absurd (omega arith)
-grab_rank z w a r W1 h u = omega arith
-grab_rank z w a r W2 h u = omega arith
+grab_rank z w a r g h u = grind arith
 
 pub grab_count_lem : (z : Sizes) (w : Lock) (a r : ℕ) (g : Grab) → r ≤ z.locks → grab_urgency z w a g ≤ 2 * r + 2 → grab_count g ≡ 0
-grab_count_lem z w a r R1 h u = refl
-grab_count_lem z w a r (R2 noted) h u = refl
-grab_count_lem z w a r R3 h u = absurd (omega arith)
-grab_count_lem z w a r R4 h u = absurd (omega arith)
-grab_count_lem z w a r W1 h u = refl
-grab_count_lem z w a r W2 h u = refl
+grab_count_lem z w a r g h u = grind arith
 
 pub grab_flag_lem : (z : Sizes) (w : Lock) (k : ℕ) (g : Grab) → grab_urgency z w k g ≤ 2 * rank_of z k + 1 → grab_flag g ≡ 0
-grab_flag_lem z w k R1 u = refl
-grab_flag_lem z w k (R2 noted) u = refl
-grab_flag_lem z w k R3 u = refl
-grab_flag_lem z w k R4 u = refl
-grab_flag_lem z w k W1 u = refl
-grab_flag_lem z w k W2 u = absurd (omega arith)
+grab_flag_lem z w k g u = grind arith

@@ -2,7 +2,6 @@
 -- Assumes nothing.
 use mathlib.Core.Path.{◌≡◌}
 use Prim.Native.Nat.{ℕ, ◌+◌, ◌-◌, ◌≤◌}
-use native.Mathlib.Nat.{mul-le-mul_left}
 use native.Mathlib.Omega.{arith}
 use Rattle.places.specs.declared.Sizes.{Sizes}
 use Rattle.finish.specs.Weight.{walk_weight, search_weight}
@@ -20,7 +19,4 @@ search_walk z picks = omega arith
 
 pub search_most : (z : Sizes) (picks : ℕ) → search_weight z picks ≤ search_weight z 0
 unfolding search_weight
-search_most z picks = omega (arith, mul-le-mul_left (z.columns + 5) less)
-  where
-    less : z.rows + 1 - picks ≤ z.rows + 1 - 0
-    less = omega arith
+search_most z picks = grind arith

@@ -1,33 +1,28 @@
 -- One step of a busy lane of a standing table: it is accepted, the other lanes stay as they are, and what it takes off its lane's weight.
 -- Assumes nothing.
-use mathlib.Core.Path.{◌≡◌, ◌∙◌, refl, ap, subst}
+use mathlib.Core.Path.{◌≡◌, ◌∙◌, refl, ap}
 use mathlib.Core.Logic.{◌≢◌}
 use mathlib.Core.List.{List}
 use mathlib.Core.Bool.{false}
 use Prim.Native.Nat.{ℕ, ◌+◌, ◌≤◌, ◌<◌}
 use native.Mathlib.Omega.{arith}
-use borrow.Author.Tests.{lt-ltb}
+use Rattle.std.specs.Prelude.{Some}
 use Rattle.lists.proofs.Below.{Each}
 use Rattle.places.specs.declared.Sizes.{Sizes}
 use Rattle.places.proofs.Limits.{ok_fits}
 use Rattle.locks.specs.declared.Grab.{Grab}
-use Rattle.locks.specs.declared.Tried.{Tried}
-use Rattle.locks.specs.declared.Tried.TheVariants.{Waits}
 use Rattle.locks.specs.Locks.{lock_at, try_lock}
 use Rattle.locks.proofs.Views.{lock_same}
 use Rattle.paths.specs.declared.Place.{Place}
 use Rattle.paths.specs.Path.{last_of}
 use Rattle.machine.specs.declared.Lane.{Lane}
-use Rattle.machine.specs.declared.Act.{Act}
 use Rattle.machine.specs.declared.Act.TheVariants.{Try}
-use Rattle.machine.specs.declared.Answer.{Answer}
-use Rattle.machine.specs.declared.Answer.TheVariants.{GoesOn, ReadNone, ReadValue, Deleted, InsertYes, InsertSearched, InsertWalked}
 use Rattle.machine.specs.Lane.{lane_at, with_lane}
 use Rattle.machine.specs.Steps.{path_length, act_of, perform, advance, Performed, step_lane}
 use Rattle.machine.specs.Claims.{is_idle_op, lane_in}
 use Rattle.machine.proofs.Numbers.{lane_same, lane_other}
 use Rattle.machine.specs.Standing.{Table, last_at}
-use Rattle.machine.specs.Desk.{memory_of, turned, step_answer, step_numbers, answer_numbers, after_step}
+use Rattle.machine.specs.Desk.{memory_of, turned, step_answer, step_numbers, after_step}
 use Rattle.kept.specs.Runs.{Stood}
 use Rattle.kept.proofs.Checked.{standing_facts}
 use Rattle.kept.proofs.Long.{lengths_of, lanes_of}
@@ -37,15 +32,6 @@ use Rattle.finish.specs.Weight.{weight}
 use Rattle.finish.specs.Schedule.{next_act}
 use Rattle.finish.proofs.Aims.{Takes, taking, takes_in, Same, takes_on}
 use Rattle.finish.proofs.Falls.{spent, owed, falls}
-
-answer_taken : (a : Answer) → (answer_numbers a).number ≡ 0
-answer_taken GoesOn = refl
-answer_taken ReadNone = refl
-answer_taken (ReadValue value) = refl
-answer_taken Deleted = refl
-answer_taken InsertYes = refl
-answer_taken InsertSearched = refl
-answer_taken InsertWalked = refl
 
 -- every lane of a standing table is in range
 pub ranges : (z : Sizes) (t : Table) → Stood z t → (j : ℕ) → j < z.lanes → Each (lane_in z (lane_at t.lanes j) (last_at t j))
@@ -67,7 +53,7 @@ module _ (z : Sizes) (t : Table) (st : Stood z t) (i : ℕ) (hi : i < z.lanes) (
 
   pub taken : (step_numbers (step_answer z t i 0)).number ≡ 0
   unfolding step_answer
-  taken = rw (st.sizes, st.lengths, st.stands, lt-ltb i z.lanes hi, busy) (answer_taken (turned z t i 0).answer)
+  taken = grind arith
 
   pub taken_stood : Stood z t'
   taken_stood = kept_step z t i 0 taken
@@ -78,10 +64,10 @@ module _ (z : Sizes) (t : Table) (st : Stood z t) (i : ℕ) (hi : i < z.lanes) (
   after = step_is z t i 0 taken
 
   pub taken_here : lane_at t'.lanes i ≡ l'
-  taken_here = ap (λ (u : Table). lane_at u.lanes i) after ∙ lane_same t.lanes i l' (omega (arith, lanes_of z t st.lengths))
+  taken_here = grind (arith, after, lane_same, lanes_of)
 
   pub taken_there : (j : ℕ) → j ≢ i → lane_at t'.lanes j ≡ lane_at t.lanes j
-  taken_there j d = ap (λ (u : Table). lane_at u.lanes j) after ∙ lane_other t.lanes i l' j d
+  taken_there j d = grind (arith, after, lane_other)
 
   pub taken_falls : weight z (lane_at t'.lanes i) + spent (next_act z t i) ≤ weight z l + owed (next_act z t i) done.seen.tried
   taken_falls = rw taken_here (falls z l (last_at t i) done.seen l.stage _ (ranges z t st i hi).1.1 (goes z l (last_at t i) done.seen l.stage))
@@ -96,25 +82,23 @@ module _ (z : Sizes) (t : Table) (st : Stood z t) (i : ℕ) (hi : i < z.lanes) (
     tried_answer = rw e refl
 
     pub tried_falls : weight z (lane_at t'.lanes i) + spent (Try k g) ≤ weight z l + owed (Try k g) (try_lock g (lock_at t.locks k)).tried
-    tried_falls =
-        subst (λ (x : Tried). weight z (lane_at t'.lanes i) + spent (Try k g) ≤ weight z l + owed (Try k g) x) tried_answer
-        (subst (λ (a : Act). weight z (lane_at t'.lanes i) + spent a ≤ weight z l + owed a done.seen.tried) e taken_falls)
+    tried_falls = grind (arith, tried_answer, taken_falls)
 
     stored : lock_at (perform z (Try k g) 0 (memory_of t)).memory.locks k ≡ (try_lock g (lock_at t.locks k)).lock
     unfolding perform
-    stored = lock_same t.locks k (try_lock g (lock_at t.locks k)).lock (omega (arith, (lengths_of z t st.lengths).locks, takes_in (ok_fits z st.sizes) lock_taken))
+    stored = grind (arith, lock_same, lengths_of, takes_in, ok_fits, lock_taken)
 
     pub tried_lock : lock_at t'.locks k ≡ (try_lock g (lock_at t.locks k)).lock
-    tried_lock = ap (λ (u : Table). lock_at u.locks k) after ∙ ap (λ (a : Act). lock_at (perform z a 0 (memory_of t)).memory.locks k) e ∙ stored
+    tried_lock = grind (arith, after, stored)
 
     path_kept : (perform z (Try k g) 0 (memory_of t)).memory.path ≡ t.path
     unfolding perform
     path_kept = refl
 
     tried_path : t'.path ≡ t.path
-    tried_path = ap (λ (u : Table). u.path) after ∙ ap (λ (a : Act). (perform z a 0 (memory_of t)).memory.path) e ∙ path_kept
+    tried_path = grind (arith, after, path_kept)
 
-    module _ (g' : Grab) (w : (try_lock g (lock_at t.locks k)).tried ≡ Waits g') where
+    module _ (g' : Grab) (w : (try_lock g (lock_at t.locks k)).tried ≡ Some g') where
       same : Same z l (last_at t i) l.stage k g' l'
       same = takes_on lock_taken done.seen g' (tried_answer ∙ w)
 

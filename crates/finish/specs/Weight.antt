@@ -1,18 +1,14 @@
 -- The weight of a lane: a number that its steps use up, whatever the slots hold. From the end backwards, each stage weighs more than what may follow.
 -- No promise rests on these numbers, only the proof.
 -- Assumes nothing.
-use Rattle.std.specs.Prelude.{ℕ, ◌+◌, ◌-◌, ◌*◌}
+use Rattle.std.specs.Prelude.{ℕ, ◌+◌, ◌-◌, ◌*◌, Option, Some, None}
 use Rattle.places.specs.declared.Sizes.{Sizes}
 use Rattle.locks.specs.declared.Grab.{Grab}
 use Rattle.locks.specs.declared.Grab.TheVariants.{R1, R2, R3, R4, W1, W2}
-use Rattle.locks.specs.declared.Tried.{Tried}
-use Rattle.locks.specs.declared.Tried.TheVariants.{Held, Waits}
 use Rattle.machine.specs.declared.Op.{Op}
 use Rattle.machine.specs.declared.Op.TheVariants.{NoOp, Read, Delete, Insert, Again}
 use Rattle.machine.specs.declared.Stage.{Stage}
 use Rattle.machine.specs.declared.Stage.TheVariants.{Idle, TakeMain, TakeFirst, SeekFirst, TakeSecond, SeekSecond, RoomFirst, RoomSecond, WriteHit, WriteRoom, Pick, DropFirst, DropSecond, DropMain, TakeNext, LookNext, PickNext, DropNext, TakeLow, TakeHigh, Swing, DropLow, DropHigh}
-use Rattle.machine.specs.declared.Found.{Found}
-use Rattle.machine.specs.declared.Found.TheVariants.{Room, Full}
 use Rattle.machine.specs.declared.Trail.{Trail}
 use Rattle.machine.specs.declared.Lane.{Lane}
 
@@ -26,9 +22,9 @@ grab_weight W1 = 2
 grab_weight W2 = 1
 
 -- what the lock's answer leaves of it
-abbrev pub tried_weight : Tried → ℕ
-tried_weight Held = 0
-tried_weight (Waits g) = grab_weight g
+abbrev pub tried_weight : Option Grab → ℕ
+tried_weight None = 0
+tried_weight (Some g) = grab_weight g
 
 -- the second pass, from its first grab
 abbrev pub pass_weight : Sizes → ℕ
@@ -51,9 +47,9 @@ later_weight z Insert = search_weight z 0
 later_weight z Again = 0
 
 -- an attempt that found room, or a full row, before its release
-abbrev pub found_weight : Sizes → Found → Trail → ℕ
-found_weight z (Room column) t = walk_weight z t.places + 1
-found_weight z Full t = search_weight z t.picks + 1
+abbrev pub found_weight : Sizes → Option ℕ → Trail → ℕ
+found_weight z (Some column) t = walk_weight z t.places + 1
+found_weight z None t = search_weight z t.picks + 1
 
 -- what each stage weighs
 abbrev pub stage_weight : Sizes → Op → Stage → ℕ

@@ -1,4 +1,4 @@
--- A lane's shares in the code: a part adds at most 1, to its own lock or to another, by each measure.
+-- A lane's shares in the code: a part adds at most 1, by each measure.
 -- Assumes nothing.
 use mathlib.Core.Path.{◌≡◌}
 use Prim.Native.Nat.{ℕ, ◌≤◌}
@@ -10,11 +10,7 @@ use Rattle.locks.specs.declared.Grab.TheVariants.{R1, R2, R3, R4, W1, W2}
 use Rattle.locks.specs.declared.Part.{Part}
 use Rattle.locks.specs.declared.Part.TheVariants.{NoPart, Tries, Holds}
 use Rattle.locks.specs.Locks.{grab_flag, mode_flag, part_flag, part_count, part_writes, part_reads}
-use Rattle.machine.specs.Claims.{on_lock}
-use Rattle.machine.proofs.Single.{mode_few, grab_few, on_le}
-
-pub on_low : (k lock n r : ℕ) → r ≡ on_lock k lock n → n ≤ 1 → r ≤ 1
-on_low k lock n r e l = omega (arith, on_le k lock n)
+use Rattle.machine.proofs.Single.{mode_few, grab_few}
 
 mode_low : (m : Mode) → mode_flag m ≤ 1
 mode_low Reading = omega arith

@@ -1,66 +1,22 @@
 // What a lane claims of the slots in the rows it holds, by the place in the steps where it stands.
 ghost use Rattle.std.specs.Prelude.{◌≡◌};
-ghost use Rattle.places.specs.Table.{Fits};
 ghost use Rattle.paths.specs.Path.{other_row};
 ghost use Rattle.machine.specs.declared.SlotClaim.TheVariants.{NoClaim, HasKey, HasPair};
 ghost use Rattle.machine.specs.Steps.{row_on};
 ghost use Rattle.machine.specs.Claims.{no_claims, pass_claims, search_claims, drop_claims, late_claims, room_claims, found_claims, claims_of};
 
-use machine::{Claims, Found, Lane, Outcome, RowClaim, Side, SlotClaim, Stage};
-use paths::{Place, other_row};
-use places::{Sizes, rows_of};
+use super::Seat;
+use machine::{Claims, Outcome, RowClaim, Side, SlotClaim, Stage};
 use rows::row_on;
 
 fn no_claims() -> Claims
     ensures { result ≡ no_claims }
 {
-    let nothing = RowClaim {
-        row: 0,
-        lacking: 0,
-        full: 0,
-    };
     Claims {
-        one: nothing,
-        two: nothing,
+        one: RowClaim::default(),
+        two: RowClaim::default(),
         slot: SlotClaim::NoClaim,
     }
-}
-
-// Of the first and second home row: columns that lack the key, then columns that are full.
-fn pass_claims(z: Sizes, l: Lane, a: u32, b: u32, c: u32, d: u32, slot: SlotClaim) -> Claims
-    requires { Fits z }
-    ensures { result ≡ pass_claims z l a b c d slot }
-{
-    let rows = rows_of(z, l.key);
-    Claims {
-        one: RowClaim {
-            row: rows.first,
-            lacking: a,
-            full: c,
-        },
-        two: RowClaim {
-            row: rows.second,
-            lacking: b,
-            full: d,
-        },
-        slot,
-    }
-}
-
-// Of both home rows: the same columns of each, and no slot.
-fn even_claims(z: Sizes, l: Lane, lacking: u32, full: u32) -> Claims
-    requires { Fits z }
-    ensures { result ≡ pass_claims z l lacking lacking full full NoClaim }
-{
-    pass_claims(z, l, lacking, lacking, full, full, SlotClaim::NoClaim)
-}
-
-// Of the second home row alone.
-fn second_claims(z: Sizes, l: Lane, lacking: u32, full: u32) -> Claims
-    requires { Fits z }
-    ensures { result ≡ pass_claims z l 0 lacking 0 full NoClaim }
-{
-    pass_claims(z, l, 0, lacking, 0, full, SlotClaim::NoClaim)
 }
 
 // Of one row of a search: its first columns are full.
@@ -73,125 +29,131 @@ fn search_claims(row: u32, full: u32, slot: SlotClaim) -> Claims
             lacking: 0,
             full,
         },
-        two: RowClaim {
-            row: 0,
-            lacking: 0,
-            full: 0,
-        },
+        two: RowClaim::default(),
         slot,
     }
 }
 
-fn next_claims(z: Sizes, last: Place, full: u32) -> Claims
-    requires { Fits z }
-    ensures { result ≡ search_claims (other_row z last) full NoClaim }
-{
-    search_claims(other_row(z, last), full, SlotClaim::NoClaim)
-}
-
-// A slot to overwrite has the key.
-fn key_claims(z: Sizes, l: Lane, side: Side, column: u32) -> Claims
-    requires { Fits z }
-    ensures { result ≡ pass_claims z l 0 0 0 0 (HasKey (row_on z l.key side) column) }
-{
-    let row = row_on(z, l.key, side);
-    pass_claims(z, l, 0, 0, 0, 0, SlotClaim::HasKey(row, column))
-}
-
-// A read's hit has the key and the value seen.
-fn pair_claims(z: Sizes, l: Lane, side: Side, column: u32, value: u32) -> Claims
-    requires { Fits z }
-    ensures { result ≡ pass_claims z l 0 0 0 0 (HasPair (row_on z l.key side) column value) }
-{
-    let row = row_on(z, l.key, side);
-    pass_claims(z, l, 0, 0, 0, 0, SlotClaim::HasPair(row, column, value))
-}
-
-// A slot to fill is empty, its key in neither home row, and the slots before it are full.
-fn room_claims(z: Sizes, l: Lane, side: Side, column: u32) -> Claims
-    requires { Fits z }
-    ensures { result ≡ room_claims z l side column }
-{
-    let w = z.columns;
-    let room = SlotClaim::HasRoom(row_on(z, l.key, side), column);
-    match side {
-        Side::First => pass_claims(z, l, w, w, column, 0, room),
-        Side::Second => pass_claims(z, l, w, w, w, column, room),
+impl Seat {
+    // Of the first and second home row: columns that lack the key, and columns that are full.
+    fn pass_claims(self, lacking: (u32, u32), full: (u32, u32), slot: SlotClaim) -> Claims
+        ensures { result ≡ pass_claims self.z.sizes self.lane lacking.0 lacking.1 full.0 full.1 slot }
+    {
+        let rows = self.z.rows_of(self.lane.key);
+        Claims {
+            one: RowClaim {
+                row: rows.first,
+                lacking: lacking.0,
+                full: full.0,
+            },
+            two: RowClaim {
+                row: rows.second,
+                lacking: lacking.1,
+                full: full.1,
+            },
+            slot,
+        }
     }
-}
 
-// Before the release of the first row.
-fn drop_claims(z: Sizes, l: Lane, outcome: Outcome) -> Claims
-    requires { Fits z }
-    ensures { result ≡ drop_claims z l outcome }
-{
-    match outcome {
-        Outcome::Hit(side, column, value) => pair_claims(z, l, side, column, value),
-        Outcome::Wrote(_) => no_claims(),
-        Outcome::Filled => no_claims(),
-        Outcome::Miss => even_claims(z, l, z.columns, 0),
-        Outcome::Picked => even_claims(z, l, z.columns, z.columns),
-        Outcome::Stuck => even_claims(z, l, z.columns, z.columns),
+    // The same of both home rows, and no slot.
+    fn row_claims(self, lacking: (u32, u32), full: (u32, u32)) -> Claims
+        ensures { result ≡ pass_claims self.z.sizes self.lane lacking.0 lacking.1 full.0 full.1 NoClaim }
+    {
+        self.pass_claims(lacking, full, SlotClaim::NoClaim)
     }
-}
 
-// Before the release of the second row.
-fn late_claims(z: Sizes, l: Lane, outcome: Outcome) -> Claims
-    requires { Fits z }
-    ensures { result ≡ late_claims z l outcome }
-{
-    match outcome {
-        Outcome::Hit(side, column, value) => pair_claims(z, l, side, column, value),
-        Outcome::Wrote(_) => no_claims(),
-        Outcome::Filled => no_claims(),
-        Outcome::Miss => second_claims(z, l, z.columns, 0),
-        Outcome::Picked => second_claims(z, l, z.columns, z.columns),
-        Outcome::Stuck => second_claims(z, l, z.columns, z.columns),
+    fn next_claims(self, full: u32) -> Claims
+        ensures { result ≡ search_claims (other_row self.z.sizes self.last) full NoClaim }
+    {
+        search_claims(self.last.other_row(self.z), full, SlotClaim::NoClaim)
     }
-}
 
-// Before the release of a row that an attempt of the search has looked through.
-fn found_claims(z: Sizes, last: Place, found: Found) -> Claims
-    requires { Fits z }
-    ensures { result ≡ found_claims z last found }
-{
-    let row = other_row(z, last);
-    match found {
-        Found::Room(column) => search_claims(row, column, SlotClaim::HasRoom(row, column)),
-        Found::Full => search_claims(last.row, z.columns, SlotClaim::NoClaim),
+    // A slot to overwrite has the key.
+    fn key_claims(self, side: Side, column: u32) -> Claims
+        ensures { result ≡ pass_claims self.z.sizes self.lane 0 0 0 0 (HasKey (row_on self.z.sizes self.lane.key side) column) }
+    {
+        let row = row_on(self.z, self.lane.key, side);
+        self.pass_claims((0, 0), (0, 0), SlotClaim::HasKey(row, column))
     }
-}
 
-// All that a lane claims; last is the last place on its path.
-pub fn claims_of(z: Sizes, l: Lane, last: Place) -> Claims
-    requires { Fits z }
-    ensures { result ≡ claims_of z l last }
-{
-    let w = z.columns;
-    let stage = l.stage;
-    match stage {
-        Stage::Idle => no_claims(),
-        Stage::TakeMain(_) => no_claims(),
-        Stage::TakeFirst(_) => no_claims(),
-        Stage::SeekFirst(column) => pass_claims(z, l, column, 0, 0, 0, SlotClaim::NoClaim),
-        Stage::TakeSecond(_) => pass_claims(z, l, w, 0, 0, 0, SlotClaim::NoClaim),
-        Stage::SeekSecond(column) => pass_claims(z, l, w, column, 0, 0, SlotClaim::NoClaim),
-        Stage::RoomFirst(column) => pass_claims(z, l, w, w, column, 0, SlotClaim::NoClaim),
-        Stage::RoomSecond(column) => pass_claims(z, l, w, w, w, column, SlotClaim::NoClaim),
-        Stage::WriteHit(side, column) => key_claims(z, l, side, column),
-        Stage::WriteRoom(side, column) => room_claims(z, l, side, column),
-        Stage::Pick => even_claims(z, l, w, w),
-        Stage::DropFirst(outcome) => drop_claims(z, l, outcome),
-        Stage::DropSecond(outcome) => late_claims(z, l, outcome),
-        Stage::DropMain(_) => no_claims(),
-        Stage::TakeNext(_, _) => no_claims(),
-        Stage::LookNext(column, _) => next_claims(z, last, column),
-        Stage::PickNext(_) => next_claims(z, last, w),
-        Stage::DropNext(found, _) => found_claims(z, last, found),
-        Stage::TakeLow(_, _) => no_claims(),
-        Stage::TakeHigh(_, _) => no_claims(),
-        Stage::Swing(_) => no_claims(),
-        Stage::DropLow(_) => no_claims(),
-        Stage::DropHigh(_) => no_claims(),
+    // A read's hit has the key and the value seen.
+    fn pair_claims(self, side: Side, column: u32, value: u32) -> Claims
+        ensures { result ≡ pass_claims self.z.sizes self.lane 0 0 0 0 (HasPair (row_on self.z.sizes self.lane.key side) column value) }
+    {
+        let row = row_on(self.z, self.lane.key, side);
+        self.pass_claims((0, 0), (0, 0), SlotClaim::HasPair(row, column, value))
+    }
+
+    // A slot to fill is empty, its key in neither home row, and the slots before it are full.
+    fn room_claims(self, side: Side, column: u32) -> Claims
+        ensures { result ≡ room_claims self.z.sizes self.lane side column }
+    {
+        let w = self.z.sizes.columns;
+        let room = SlotClaim::HasRoom(row_on(self.z, self.lane.key, side), column);
+        match side {
+            Side::First => self.pass_claims((w, w), (column, 0), room),
+            Side::Second => self.pass_claims((w, w), (w, column), room),
+        }
+    }
+
+    // Before the release of the first row.
+    fn drop_claims(self, outcome: Outcome) -> Claims
+        ensures { result ≡ drop_claims self.z.sizes self.lane outcome }
+    {
+        let w = self.z.sizes.columns;
+        match outcome {
+            Outcome::Hit(side, column, value) => self.pair_claims(side, column, value),
+            Outcome::Wrote(_) | Outcome::Filled => no_claims(),
+            Outcome::Miss => self.row_claims((w, w), (0, 0)),
+            Outcome::Picked | Outcome::Stuck => self.row_claims((w, w), (w, w)),
+        }
+    }
+
+    // Before the release of the second row.
+    fn late_claims(self, outcome: Outcome) -> Claims
+        ensures { result ≡ late_claims self.z.sizes self.lane outcome }
+    {
+        let w = self.z.sizes.columns;
+        match outcome {
+            Outcome::Hit(side, column, value) => self.pair_claims(side, column, value),
+            Outcome::Wrote(_) | Outcome::Filled => no_claims(),
+            Outcome::Miss => self.row_claims((0, w), (0, 0)),
+            Outcome::Picked | Outcome::Stuck => self.row_claims((0, w), (0, w)),
+        }
+    }
+
+    // Before the release of a row that an attempt of the search has looked through.
+    fn found_claims(self, found: Option<u32>) -> Claims
+        ensures { result ≡ found_claims self.z.sizes self.last found }
+    {
+        let row = self.last.other_row(self.z);
+        match found {
+            Some(column) => search_claims(row, column, SlotClaim::HasRoom(row, column)),
+            None => search_claims(self.last.row, self.z.sizes.columns, SlotClaim::NoClaim),
+        }
+    }
+
+    // All that the lane claims.
+    #[tactic(auto, unfolding(machine::specs::Claims::claims_at))]
+    pub fn claims(self) -> Claims
+        ensures { result ≡ claims_of self.z.sizes self.lane self.last }
+    {
+        let w = self.z.sizes.columns;
+        match self.lane.stage {
+            Stage::SeekFirst(column) => self.row_claims((column, 0), (0, 0)),
+            Stage::TakeSecond(_) => self.row_claims((w, 0), (0, 0)),
+            Stage::SeekSecond(column) => self.row_claims((w, column), (0, 0)),
+            Stage::RoomFirst(column) => self.row_claims((w, w), (column, 0)),
+            Stage::RoomSecond(column) => self.row_claims((w, w), (w, column)),
+            Stage::WriteHit(side, column) => self.key_claims(side, column),
+            Stage::WriteRoom(side, column) => self.room_claims(side, column),
+            Stage::Pick => self.row_claims((w, w), (w, w)),
+            Stage::DropFirst(outcome) => self.drop_claims(outcome),
+            Stage::DropSecond(outcome) => self.late_claims(outcome),
+            Stage::LookNext(column, _) => self.next_claims(column),
+            Stage::PickNext(_) => self.next_claims(w),
+            Stage::DropNext(found, _) => self.found_claims(found),
+            _ => no_claims(),
+        }
     }
 }

@@ -4,6 +4,17 @@
 
 mod held;
 mod known;
+mod shares;
 
-pub use held::{Shares, grip_of, shares_of};
-pub use known::claims_of;
+use machine::Lane;
+use paths::Place;
+use places::Layout;
+pub use shares::{Shares, shares_of};
+
+// A lane in a table, and the last place on its path.
+#[derive(Clone, Copy)]
+pub struct Seat {
+    pub z: Layout,
+    pub lane: Lane,
+    pub last: Place,
+}

@@ -3,44 +3,30 @@
 #![tactic(auto)]
 
 ghost use Rattle.machine.specs.Steps.{step_lane};
-ghost use Rattle.acts.specs.Fitting.{memory};
+ghost use Rattle.acts.specs.Lent.{memory_of};
 ghost use Rattle.lanes.specs.Fitting.{StepFits, Steps};
 ghost use Rattle.in_place.specs.InPlace.{Left};
 
+use acts::LentMemory;
 use lanes::step_lane;
 use machine::{Answer, Lane, Moved};
-use places::Sizes;
 
 // One step of a lane where it lies.
-pub fn step_in_place(
-    z: Sizes,
-    lane: &mut Lane,
-    byte: u8,
-    slots: &mut [u32],
-    locks: &mut [u32],
-    path: &mut [u32],
-) -> Answer
-    requires { StepFits z (memory slots.old locks.old path.old) lane.old }
-    ensures { Left result lane.new slots.new locks.new path.new (step_lane z (memory slots.old locks.old path.old) lane.old byte) }
+pub fn step_in_place(m: &mut LentMemory, lane: &mut Lane, byte: u8) -> Answer
+    requires { StepFits m.old.z.sizes (memory_of m.old) lane.old }
+    ensures { Left result lane.new m.old m.new (step_lane m.old.z.sizes (memory_of m.old) lane.old byte) }
 {
-    let s = step_lane(z, *lane, byte, slots, locks, path);
+    let s = step_lane(m, *lane, byte);
     *lane = s.lane;
     s.answer
 }
 
 // The same for a lane by value: a local, lent for the step and read after it.
-pub fn step_local(
-    z: Sizes,
-    lane: Lane,
-    byte: u8,
-    slots: &mut [u32],
-    locks: &mut [u32],
-    path: &mut [u32],
-) -> Moved
-    requires { StepFits z (memory slots.old locks.old path.old) lane }
-    ensures { Steps result slots.new locks.new path.new (step_lane z (memory slots.old locks.old path.old) lane byte) }
+pub fn step_local(m: &mut LentMemory, lane: Lane, byte: u8) -> Moved
+    requires { StepFits m.old.z.sizes (memory_of m.old) lane }
+    ensures { Steps result m.old m.new (step_lane m.old.z.sizes (memory_of m.old) lane byte) }
 {
     let mut l = lane;
-    let answer = step_in_place(z, &mut l, byte, slots, locks, path);
+    let answer = step_in_place(m, &mut l, byte);
     Moved { lane: l, answer }
 }

@@ -18,9 +18,10 @@ use Rattle.paths.specs.Path.{emptied, last_of}
 use Rattle.machine.specs.declared.Lane.{Lane}
 use Rattle.machine.specs.declared.Moved.{Moved}
 use Rattle.machine.specs.Steps.{Memory, path_length, act_of, act_at, perform, advance_at, step_lane}
+use Rattle.acts.specs.declared.doing.LentMemory.{LentMemory}
 use Rattle.acts.specs.Fitting.{memory, StageFits, TailFits, ActFits}
 use Rattle.lanes.specs.Fitting.{StepFits, Steps}
-use Rattle.in_place_tapes.specs.Tape.{small_sizes, first_lane, after_steps, Stands}
+use Rattle.in_place_tapes.specs.Tape.{small_sizes, after_steps, Stands}
 
 module _ (m : Memory) (l : Lane) where
   made : length m.slots ≡ slot_count small_sizes * 3 → length m.locks ≡ 8 → length m.path ≡ 15 → path_length l.stage ≤ 5
@@ -56,16 +57,12 @@ fits_from =
     (turn 12 (made _ _ refl refl refl (omega arith) tt (omega arith, omega arith, tt))
     (λ n a b. absurd (omega arith))))))))))))))
 
-module _ (xs ls ps : List ℕ) (l : Lane) (n : ℕ) where
-  pub begins : l ≡ first_lane → Stands xs ls ps first_lane n → Stands xs ls ps l n
-  begins e s = rw e s
+module _ (z : Sizes) (xs ls ps : List ℕ) (l : Lane) (n : ℕ) (ez : z ≡ small_sizes) (s : Stands xs ls ps l n) where
+  pub fits : n < 13 → StepFits z (memory xs ls ps) l
+  fits below = rw (ez, s.slots, s.locks, s.path, s.lane) (fits_from n (omega arith) below)
 
-module _ (z : Sizes) (xs ls ps : List ℕ) (l : Lane) (n : ℕ) where
-  pub fits : z ≡ small_sizes → Stands xs ls ps l n → n < 13 → StepFits z (memory xs ls ps) l
-  fits ez s below = rw (ez, s.slots, s.locks, s.path, s.lane) (fits_from n (omega arith) below)
-
-  pub stands_on : (r : Moved) (ys ms qs : List ℕ) → z ≡ small_sizes → Stands xs ls ps l n → Steps r ys ms qs (step_lane z (memory xs ls ps) l 0) → Stands ys ms qs r.lane (n + 1)
+  pub stands_on : (r : Moved) (before after : LentMemory) → Steps r before after (step_lane z (memory xs ls ps) l 0) → Stands after.slots.now after.locks.now after.path.now r.lane (n + 1)
   unfolding after_steps
-  stands_on r ys ms qs ez s t =
+  stands_on r before after t =
       let e : step_lane z (memory xs ls ps) l 0 ≡ after_steps (n + 1) = rw (add-one, ez, s.slots, s.locks, s.path, s.lane) in
-      record { slots = rw (← e) t.slots; locks = rw (← e) t.locks; path = rw (← e) t.path; lane = rw (← e) t.lane }
+      record { slots = rw (← e) t.memory.slots; locks = rw (← e) t.memory.locks; path = rw (← e) t.memory.path; lane = rw (← e) t.lane }

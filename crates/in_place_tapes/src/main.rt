@@ -5,69 +5,59 @@
 ghost use Rattle.std.specs.Prelude.{◌≡◌};
 ghost use Rattle.in_place_tapes.specs.Tape.{small_sizes, first_lane, Stands};
 
+use acts::LentMemory;
 use in_place::step_local;
-use locks::{Mode, grab_of};
+use locks::Mode;
 use machine::{Answer, Lane, Op, Stage};
-use places::Sizes;
-use std::io::{self, Write};
+use places::{Layout, Sizes};
+use std::io;
 
+#[tactic(auto, unfolding(crate::specs::Tape::after_steps))]
 fn main(rt: HostRuntime) -> io::Result<()> {
     let mut slots = [0u32; 9];
     let mut locks = [0u32; 8];
     let mut path = [0u32; 15];
     insert_alone(&rt, &mut slots, &mut locks, &mut path)?;
-    say_numbers(&rt, &slots)
-}
-
-fn say(rt: &impl Print, text: &[u8]) -> io::Result<()> {
-    io::writer(rt).write_all(text)
-}
-
-fn say_number(rt: &impl Print, n: u32) -> io::Result<()> {
-    println!(rt; "{n}")
-}
-
-fn say_numbers(rt: &impl Print, numbers: &[u32]) -> io::Result<()> {
-    let mut i: usize = 0;
-    while i < numbers.len() {
-        say_number(rt, numbers[i])?;
-        i += 1;
+    for n in &slots {
+        println!(rt; "{n}")?;
     }
     Ok(())
 }
 
 fn say_answer(rt: &impl Print, a: Answer) -> io::Result<()> {
-    match a {
-        Answer::GoesOn => say(rt, b"goes on\n"),
-        Answer::ReadNone => say(rt, b"read none\n"),
-        Answer::ReadValue(value) => say(rt, b"read\n"),
-        Answer::Deleted => say(rt, b"delete\n"),
-        Answer::InsertYes => say(rt, b"insert yes\n"),
-        Answer::InsertSearched => say(rt, b"insert searched\n"),
-        Answer::InsertWalked => say(rt, b"insert walked\n"),
-    }
+    let text = match a {
+        Answer::GoesOn => "goes on",
+        Answer::ReadNone => "read none",
+        Answer::ReadValue(_) => "read",
+        Answer::Deleted => "delete",
+        Answer::InsertYes => "insert yes",
+        Answer::InsertSearched => "insert searched",
+        Answer::InsertWalked => "insert walked",
+    };
+    println!(rt; "{text}")
 }
 
-fn small_sizes() -> Sizes
-    ensures { result ≡ small_sizes }
+fn small_layout() -> Layout
+    ensures { result.sizes ≡ small_sizes }
 {
-    Sizes {
-        rows: 3,
-        columns: 1,
-        locks: 3,
-        lanes: 1,
+    Layout {
+        sizes: Sizes {
+            rows: 3,
+            columns: 1,
+            locks: 3,
+            lanes: 1,
+        },
     }
 }
 
 fn first_lane() -> Lane
     ensures { result ≡ first_lane }
 {
-    let stage = Stage::TakeMain(grab_of(Mode::Writing));
     Lane {
         op: Op::Insert,
         key: 1024,
         value: 7,
-        stage,
+        stage: Stage::TakeMain(Mode::Writing.grab()),
     }
 }
 
@@ -80,15 +70,17 @@ fn insert_alone(
 ) -> io::Result<()>
     requires { Stands slots.old locks.old path.old first_lane 0 }
 {
-    let z = small_sizes();
+    let mut m = LentMemory {
+        z: small_layout(),
+        slots,
+        locks,
+        path,
+    };
     let mut lane = first_lane();
-    let mut i: u32 = 0;
-    while i < 13 {
-        let m = step_local(z, lane, 0, slots, locks, path);
-        let answer = m.answer;
-        say_answer(rt, answer)?;
-        lane = m.lane;
-        i += 1;
+    for _ in 0..13u32 {
+        let moved = step_local(&mut m, lane, 0);
+        say_answer(rt, moved.answer)?;
+        lane = moved.lane;
     }
     Ok(())
 }

@@ -1,2 +1,1 @@
-mod Bodies
 pub mod Whole

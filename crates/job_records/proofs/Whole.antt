@@ -1,66 +1,22 @@
--- `record_at` at each way through `record_at`: no byte, a whole record, a record cut short or unknown.
+-- A record that is found is whole: the offset after it lies further on, as far as the record is long, and within the job.
 -- Assumes nothing.
-use mathlib.Core.Path.{◌≡◌, refl, sym, ap, ◌∙◌, subst⁻¹}
-use mathlib.Core.Logic.{◌⊎◌, inl, inr, ⊎_elim}
+use mathlib.Core.Path.{◌≡◌, refl, ap}
 use mathlib.Core.List.{List}
-use mathlib.Core.Bool.{Bool, true, false, cond, ◌&&◌}
-use Prim.Native.Nat.{ℕ, zero, suc, ◌+◌, ◌-◌, ◌≤◌, ◌<◌}
+use mathlib.Core.Bool.{Bool, true, false, cond}
+use Prim.Native.Nat.{ℕ, ◌+◌, ◌-◌, ◌≤◌, ◌<◌}
 use native.Mathlib.Omega.{arith}
 use lib.ListN.{length, get_or}
-use lib.Dec.{eqb, ltb}
-use borrow.Author.Tests.{le-leb, lt-leb, ltb-true}
+use lib.Dec.{leb, ltb}
+use borrow.Author.Tests.{ltb-true}
+use Rattle.std.specs.Prelude.{None, Some, Result, Ok, Err}
 use Rattle.machine.specs.declared.Request.TheVariants.{AskRead, AskDelete, AskInsert}
+use Rattle.job_records.specs.declared.Kind.{Kind}
+use Rattle.job_records.specs.declared.Kind.TheVariants.{Open, Read, Delete, Insert, Step, End}
+use Rattle.job_records.specs.declared.UnknownKind.{UnknownKind}
 use Rattle.job_records.specs.declared.Record.{Record}
-use Rattle.job_records.specs.declared.Record.TheVariants.{Opens, Starts, Steps, Ends, Bad}
+use Rattle.job_records.specs.declared.Record.TheVariants.{Opens, Starts, Steps, Ends}
 use Rattle.job_records.specs.declared.Taken.{Taken}
-use Rattle.job_records.specs.Records.{sizes_at, read_at, delete_at, insert_at, step_at, body_length, body_at, is_known, bad, record_at}
-
-and_right : (a b : Bool) → (a && b) ≡ true → b ≡ true
-and_right true b e = e
-and_right false b e = let z : ◌≡◌ {A = ℕ} 0 1 = cc in absurd (omega arith)
-
-module _ (s : List ℕ) (at : ℕ) where
-  pub no_byte : length s ≤ at → bad at ≡ record_at s at
-  unfolding record_at
-  no_byte h = rw (le-leb _ _ h)
-
-  pub whole : (n : ℕ) (b : Bool) (r : Record) → at < length s → n ≡ body_length (get_or s at 0) → b ≡ is_known (get_or s at 0) → (b && ltb n (length s - at)) ≡ true
-      → r ≡ body_at s at (get_or s at 0) → record { item = r; next = at + n + 1 } ≡ record_at s at
-  unfolding record_at
-  whole n b r h en eb t er = rw (lt-leb _ _ h, ← en, ← eb, t, er)
-
-  pub cut : (n : ℕ) (b : Bool) → at < length s → n ≡ body_length (get_or s at 0) → b ≡ is_known (get_or s at 0) → (b && ltb n (length s - at)) ≡ false → bad at ≡ record_at s at
-  unfolding record_at
-  cut n b h en eb t = rw (lt-leb _ _ h, ← en, ← eb, t)
-
-  -- the body is there
-  pub in_front : (n k : ℕ) (b : Bool) → at < length s → n ≡ body_length k → (b && ltb n (length s - at)) ≡ true → at + body_length k < length s
-  in_front n k b h en t = let l = ltb-true n (length s - at) (and_right b (ltb n (length s - at)) t) in omega arith
-
-  pub end_in : (n : ℕ) (b : Bool) → at < length s → (b && ltb n (length s - at)) ≡ true → at + n + 1 ≤ length s
-  end_in n b h t = let l = ltb-true n (length s - at) (and_right b (ltb n (length s - at)) t) in omega arith
-
-lt_or_ge : (a b : ℕ) → (a < b) ⊎ (b ≤ a)
-lt_or_ge a zero = inr (omega arith)
-lt_or_ge zero (suc b) = inl (omega arith)
-lt_or_ge (suc a) (suc b) = ⊎_elim (λ p. inl (omega arith)) (λ q. inr (omega arith)) (lt_or_ge a b)
-
--- the record at an offset of kind k
-abbrev whole_at : List ℕ → ℕ → ℕ → Taken
-whole_at s at k = record { item = body_at s at k; next = at + body_length k + 1 }
-
-whole_or_bad : (s : List ℕ) (at : ℕ) → (record_at s at ≡ bad at) ⊎ ((record_at s at ≡ whole_at s at (get_or s at 0)) × (at + body_length (get_or s at 0) + 1 ≤ length s))
-whole_or_bad s at = ⊎_elim (λ l. go l (is_known (get_or s at 0) && ltb (body_length (get_or s at 0)) (length s - at)) refl) (λ l. inl (sym (no_byte s at l))) (lt_or_ge at (length s))
-  where
-    go : at < length s → (b : Bool) → (is_known (get_or s at 0) && ltb (body_length (get_or s at 0)) (length s - at)) ≡ b
-        → (record_at s at ≡ bad at) ⊎ ((record_at s at ≡ whole_at s at (get_or s at 0)) × (at + body_length (get_or s at 0) + 1 ≤ length s))
-    go l true e =
-        inr (sym (whole s at (body_length (get_or s at 0)) (is_known (get_or s at 0)) (body_at s at (get_or s at 0)) l refl refl e refl), end_in s at (body_length (get_or s at 0)) (is_known (get_or s at 0)) l e)
-    go l false e = inl (sym (cut s at (body_length (get_or s at 0)) (is_known (get_or s at 0)) l refl refl e))
-
--- where no record is found the answer is Bad; where one is, the next offset lies further on, within the job
-pub goes_on_lem : (s : List ℕ) (at : ℕ) → (record_at s at ≡ bad at) ⊎ ((at < (record_at s at).next) × ((record_at s at).next ≤ length s))
-goes_on_lem s at = ⊎_elim (λ e. inl e) (λ w. inr (subst⁻¹ (λ (t : Taken). (at < t.next) × (t.next ≤ length s)) w.0 (omega arith, w.1))) (whole_or_bad s at)
+use Rattle.job_records.specs.Records.{kind_of, body_length, body_at, record_of, record_at}
 
 -- how long each record is
 abbrev pub record_length : Record → ℕ
@@ -70,34 +26,45 @@ record_length (Starts j (AskDelete key)) = 6
 record_length (Starts j (AskInsert key value)) = 10
 record_length (Steps j byte) = 3
 record_length Ends = 1
-record_length Bad = 1
 
-abbrev pub is_bad : Record → Bool
-is_bad (Opens z) = false
-is_bad (Starts j r) = false
-is_bad (Steps j byte) = false
-is_bad Ends = false
-is_bad Bad = true
+body_long : (s : List ℕ) (at : ℕ) (kind : Kind) → record_length (body_at s at kind) ≡ body_length kind + 1
+body_long s at Open = refl
+body_long s at Read = refl
+body_long s at Delete = refl
+body_long s at Insert = refl
+body_long s at Step = refl
+body_long s at End = refl
 
-body_long : (s : List ℕ) (at k : ℕ) → record_length (body_at s at k) ≡ body_length k + 1
-unfolding body_at body_length
-body_long s at k = go (eqb k 1) (eqb k 2) (eqb k 3) (eqb k 4) (eqb k 5) (eqb k 6)
+-- the offset after a record that is found is as far on as the record is long, and within the job
+pub item_long : (s : List ℕ) (at : ℕ) (taken : Taken) → record_at s at ≡ Some taken → (taken.next ≡ at + record_length taken.item) × (taken.next ≤ length s)
+unfolding record_at
+item_long s at taken = by_byte (leb (length s) at) refl
   where
-    go : (a b c d f g : Bool) → record_length (cond a (sizes_at s at) (cond b (read_at s at) (cond c (delete_at s at) (cond d (insert_at s at) (cond f (step_at s at) (cond g Ends Bad))))))
-        ≡ cond a 4 (cond b 5 (cond c 5 (cond d 9 (cond f 2 0)))) + 1
-    go true b c d f g = refl
-    go false true c d f g = refl
-    go false false true d f g = refl
-    go false false false true f g = refl
-    go false false false false true g = refl
-    go false false false false false true = refl
-    go false false false false false false = refl
+    by_length : (kind : Kind) → leb (length s) at ≡ false → (b : Bool) → ltb (body_length kind) (length s - at) ≡ b
+        → cond b (Some (record { item = body_at s at kind; next = at + body_length kind + 1 })) None ≡ Some taken → (taken.next ≡ at + record_length taken.item) × (taken.next ≤ length s)
+    by_length kind h true l e =
+        let t : ◌≡◌ {A = Taken} (record { item = body_at s at kind; next = at + body_length kind + 1 }) taken = cc in
+        let n : at + body_length kind + 1 ≡ taken.next = ap (λ (x : Taken). x.next) t in
+        let i : record_length (body_at s at kind) ≡ record_length taken.item = ap (λ (x : Taken). record_length x.item) t in
+        (omega (arith, body_long s at kind), omega (arith, ltb-true (body_length kind) (length s - at) l))
+    by_length kind h false l e = absurd cc
 
-pub item_long : (s : List ℕ) (at : ℕ) (item : Record) → (record_at s at).item ≡ item → is_bad item ≡ false → ((record_at s at).next ≡ at + record_length item) × ((record_at s at).next ≤ length s)
-item_long s at item e f =
-    ⊎_elim (λ w. let z : ◌≡◌ {A = ℕ} 0 1 = cc (sym f ∙ ap is_bad (sym e ∙ ap (λ (t : Taken). t.item) w)) in absurd (omega arith))
-    (λ w.
-    let n : (record_at s at).next ≡ at + body_length (get_or s at 0) + 1 = ap (λ (t : Taken). t.next) w.0 in
-    let l : record_length item ≡ body_length (get_or s at 0) + 1 = ap record_length (sym e ∙ ap (λ (t : Taken). t.item) w.0) ∙ body_long s at (get_or s at 0) in
-    (omega arith, omega (arith, w.1)))
-    (whole_or_bad s at)
+    by_kind : (k : Result Kind UnknownKind) → leb (length s) at ≡ false → record_of s at k ≡ Some taken → (taken.next ≡ at + record_length taken.item) × (taken.next ≤ length s)
+    by_kind (Ok kind) h e = by_length kind h (ltb (body_length kind) (length s - at)) refl e
+    by_kind (Err u) h e = absurd cc
+
+    by_byte : (b : Bool) → leb (length s) at ≡ b → cond b None (record_of s at (kind_of (get_or s at 0))) ≡ Some taken → (taken.next ≡ at + record_length taken.item) × (taken.next ≤ length s)
+    by_byte true h e = absurd cc
+    by_byte false h e = by_kind (kind_of (get_or s at 0)) h e
+
+a_byte_long : (item : Record) → 0 < record_length item
+a_byte_long (Opens z) = omega arith
+a_byte_long (Starts j (AskRead key)) = omega arith
+a_byte_long (Starts j (AskDelete key)) = omega arith
+a_byte_long (Starts j (AskInsert key value)) = omega arith
+a_byte_long (Steps j byte) = omega arith
+a_byte_long Ends = omega arith
+
+-- that offset lies further on
+pub goes_on_lem : (s : List ℕ) (at : ℕ) (taken : Taken) → record_at s at ≡ Some taken → (at < taken.next) × (taken.next ≤ length s)
+goes_on_lem s at taken e = let long = item_long s at taken e in (omega (arith, long.0, a_byte_long taken.item), long.1)

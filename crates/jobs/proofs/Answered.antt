@@ -1,40 +1,21 @@
 -- What a call of the desk comes to: it goes on exactly where it is accepted.
 -- Assumes nothing.
-use mathlib.Core.Path.{◌≡◌, refl, sym}
-use mathlib.Core.Logic.{◌≢◌}
-use mathlib.Core.Bool.{Bool, true, false, cond}
-use mathlib.Core.List.{List}
+use mathlib.Core.Path.{◌≡◌, refl, sym, ◌∙◌}
+use mathlib.Core.Bool.{true, false}
 use Prim.Native.Nat.{ℕ}
-use native.Mathlib.Omega.{arith}
-use lib.Dec.{eqb}
-use borrow.Author.Tests.{eqb-true, eq-eqb, ne_eqb}
+use Rattle.std.specs.Prelude.{Result, Ok, Err}
+use Rattle.machine.specs.declared.Refusal.{Refusal}
 use Rattle.machine.specs.Standing.{Table}
-use Rattle.jobs.specs.Job.{Came, goes_on, refused, answered}
+use Rattle.jobs.specs.Job.{Came, answered}
 
 pub never : {A : Type 0} → true ≡ false → A
-never e = let z : ◌≡◌ {A = ℕ} 0 1 = cc in absurd (omega arith)
+never e = absurd cc
 
-pub accepted_is : (number at : ℕ) (c : Came) (t : Table) → number ≡ 0 → answered number at c t ≡ c
-unfolding answered
-accepted_is number at c t e = rw (eq-eqb number 0 e)
+module _ {A : Type 0} (at : ℕ) (c : A → Came) (t : Table) where
+  pub goes_accepted : (r : Result A Refusal) → (answered r at c t).goes ≡ true → (a : A) × (r ≡ Ok a)
+  goes_accepted (Ok a) g = (a, refl)
+  goes_accepted (Err why) g = never (sym g)
 
-pub refused_is : (number at : ℕ) (c : Came) (t : Table) → number ≢ 0 → answered number at c t ≡ refused number at t
-unfolding answered
-refused_is number at c t d = rw (ne_eqb number 0 d)
-
-module _ (number at : ℕ) (text : List ℕ) (u t : Table) where
-  pub goes_accepted : (answered number at (goes_on text u) t).goes ≡ true → (number ≡ 0) × (answered number at (goes_on text u) t ≡ goes_on text u)
-  unfolding answered
-  goes_accepted e = go (eqb number 0) refl e
-    where
-      go : (b : Bool) → eqb number 0 ≡ b → (cond b (goes_on text u) (refused number at t)).goes ≡ true → (number ≡ 0) × (cond b (goes_on text u) (refused number at t) ≡ goes_on text u)
-      go true p e = (eqb-true number 0 p, refl)
-      go false p e = never (sym e)
-
-  pub stops_refused : (answered number at (goes_on text u) t).goes ≡ false → answered number at (goes_on text u) t ≡ refused number at t
-  unfolding answered
-  stops_refused e = go (eqb number 0) e
-    where
-      go : (b : Bool) → (cond b (goes_on text u) (refused number at t)).goes ≡ false → cond b (goes_on text u) (refused number at t) ≡ refused number at t
-      go true e = never e
-      go false e = refl
+  pub stops_refused : (r : Result A Refusal) → ((a : A) → (c a).goes ≡ true) → (answered r at c t).goes ≡ false → (why : Refusal) × (r ≡ Err why)
+  stops_refused (Ok a) h g = never (sym (h a) ∙ g)
+  stops_refused (Err why) h g = (why, refl)

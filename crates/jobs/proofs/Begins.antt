@@ -1,29 +1,42 @@
 -- How a job begins: the parts of the local memory that the sizes call for are the job's table; and the first record.
 -- Assumes nothing.
-use mathlib.Core.Path.{◌≡◌, refl, sym, ◌∙◌, ap, subst, subst⁻¹}
-use mathlib.Core.Bool.{Bool, true, false}
-use mathlib.Core.List.{List, ◌∷◌, ◌++◌}
+use mathlib.Core.Path.{◌≡◌, refl, sym, ◌∙◌, ap, subst}
+use mathlib.Core.Bool.{Bool, true, false, cond}
+use mathlib.Core.List.{List, [], ◌∷◌, ◌++◌, append_assoc}
 use Prim.Native.Nat.{ℕ, zero, suc, ◌+◌, ◌*◌, ◌≤◌, ◌<◌}
 use native.Mathlib.Omega.{arith}
-use lib.ListN.{length, take, replicate}
+use lib.ListN.{length, take, replicate, length-append}
 use borrow.Author.Tests.{lt-ltb, le-ltb}
+use denote.Ref.{Bor}
+use Rattle.std.specs.Prelude.{Option, None, Some, Result, Ok, Err}
+use Rattle.std.specs.Option.{option_map, ok_or}
 use Rattle.places.specs.declared.Sizes.{Sizes}
-use Rattle.places.specs.Table.{Fits, sizes_ok, slot_count}
-use Rattle.places.proofs.Limits.{ok_fits, slots_few}
+use Rattle.places.specs.declared.Layout.{Layout}
+use Rattle.places.specs.Table.{sizes_ok, slot_count}
+use Rattle.places.proofs.Limits.{slots_few, fits_ok}
+use Rattle.machine.specs.declared.Refusal.TheVariants.{BadSizes}
 use Rattle.machine.specs.Standing.{Table}
-use Rattle.machine.specs.declared.Request.{Request}
 use Rattle.standing.specs.Tables.{table}
 use Rattle.kept.specs.Runs.{Stood}
 use Rattle.job_records.specs.declared.Record.{Record}
-use Rattle.job_records.specs.declared.Record.TheVariants.{Opens, Starts, Steps, Ends, Bad}
+use Rattle.job_records.specs.declared.Record.TheVariants.{Opens}
 use Rattle.job_records.specs.declared.Taken.{Taken}
 use Rattle.job_records.specs.Records.{record_at}
-use Rattle.job_records.proofs.Whole.{item_long}
-use Rattle.prints.specs.Put.{Put}
-use Rattle.prints.proofs.Puts.{put_then}
-use Rattle.lines.specs.Lines.{sizes_line, refused_line}
-use Rattle.jobs.specs.Job.{zeros, job_table, print_from, opened_print, first_print, print_of}
+use Rattle.job_records.proofs.Whole.{record_length, item_long}
+use Rattle.reader.specs.declared.Reader.{Reader}
+use Rattle.reader.specs.Finds.{Finds}
+use Rattle.reader.proofs.Found.{found_some}
+use Rattle.prints.specs.declared.Out.{Out}
+use Rattle.prints.specs.Put.{Put, Puts}
+use Rattle.prints.proofs.Puts.{put_then, puts_none, puts_then}
+use Rattle.lines.specs.Lines.{sizes_line}
+use Rattle.jobs.specs.declared.stop.Cause.TheVariants.{Malformed, Refused}
+use Rattle.jobs.specs.declared.stop.Stop.{Stop}
+use Rattle.jobs.specs.Job.{max_bytes, out_bytes, zeros, job_table, print_from, opened_print, job_print, print_of}
+use Rattle.jobs.specs.Obeys.{stop_line, last_line, Said}
+use Rattle.jobs.specs.Prints.{Prints}
 use Rattle.jobs.proofs.Fresh.{fresh_stood, fresh_is}
+use Rattle.jobs.proofs.Room.{line_fits, printed}
 
 -- the front of a list of zeros
 front : (n m : ℕ) → n ≤ m → ◌≡◌ {A = List ℕ} (take n (replicate m 0)) (replicate n 0)
@@ -35,73 +48,101 @@ front (suc n) (suc m) h = ap (λ (xs : List ℕ). 0 ∷ xs) (front n m (omega ar
 abbrev pub lent : ℕ → ℕ → ℕ → ℕ → Table
 lent a b c d = table (take a (replicate 1536 0)) (take b (replicate 130 0)) (take c (replicate 112 0)) (take d (replicate 198 0))
 
-module _ (z : Sizes) (ok : sizes_ok z ≡ true) (count : ℕ) (e : count ≡ slot_count z) where
-  pub lent_is : lent (count * 3) ((z.locks + 1) * 2) (z.lanes * 14) ((z.rows + 2) * 3) ≡ job_table z
+module _ (z : Layout) (count : ℕ) (e : count ≡ slot_count z.sizes) where
+  lent_is : lent (count * 3) ((z.sizes.locks + 1) * 2) (z.sizes.lanes * 14) ((z.sizes.rows + 2) * 3) ≡ job_table z.sizes
   unfolding zeros
   lent_is =
-      let f : Fits z = ok_fits z ok in
       (λ k. record {
-        slots = (front (count * 3) 1536 (omega (arith, slots_few z f)) ∙ ap (λ (n : ℕ). replicate (n * 3) 0) e) k;
-        locks = front ((z.locks + 1) * 2) 130 (omega (arith, f.locks_high, f.rows_high)) k;
-        lanes = front (z.lanes * 14) 112 (omega (arith, f.lanes_high)) k;
-        path = front ((z.rows + 2) * 3) 198 (omega (arith, f.rows_high)) k;
+        slots = (front (count * 3) 1536 (omega (arith, slots_few z.sizes z.fits)) ∙ ap (λ (n : ℕ). replicate (n * 3) 0) e) k;
+        locks = front ((z.sizes.locks + 1) * 2) 130 (omega (arith, z.fits.locks_high, z.fits.rows_high)) k;
+        lanes = front (z.sizes.lanes * 14) 112 (omega (arith, z.fits.lanes_high)) k;
+        path = front ((z.sizes.rows + 2) * 3) 198 (omega (arith, z.fits.rows_high)) k;
       })
-      ∙ sym (fresh_is z ok)
+      ∙ sym (fresh_is z.sizes (fits_ok z.sizes z.fits))
 
-  pub lent_stood : Stood z (lent (count * 3) ((z.locks + 1) * 2) (z.lanes * 14) ((z.rows + 2) * 3))
-  lent_stood = subst⁻¹ (Stood z) lent_is (fresh_stood z ok)
-
-  pub table_joined : (start r n at : ℕ) (s was mid out : List ℕ) → Put start 0 was mid (sizes_line z)
-      → Put r start mid out (print_from n z (lent (count * 3) ((z.locks + 1) * 2) (z.lanes * 14) ((z.rows + 2) * 3)) s at) → Put r 0 was out (sizes_line z ++ print_from n z (job_table z) s at)
-  table_joined start r n at s was mid out p q = put_then p (subst (λ (t : Table). Put r start mid out (print_from n z t s at)) lent_is q)
+  pub lent_stood : Stood z.sizes (lent (count * 3) ((z.sizes.locks + 1) * 2) (z.sizes.lanes * 14) ((z.sizes.rows + 2) * 3))
+  lent_stood = rw lent_is (fresh_stood z.sizes (fits_ok z.sizes z.fits))
 
 -- ---- the sizes
 
-module _ (r at : ℕ) (z : Sizes) (s was out : List ℕ) (b : Bool) (e : b ≡ sizes_ok z) where
-  pub sizes_good : b ≡ true → Put r 0 was out (sizes_line z ++ print_from (length s) z (job_table z) s at) → Put r 0 was out (opened_print z s at)
-  unfolding opened_print
-  sizes_good t p = rw (sym e ∙ t) p
+-- what `Layout::new` and the `ok_or` after it come to
+module _ (sizes : Sizes) (stop : Stop) (made : Option Layout) (tried : Result Layout Stop) (e : option_map (λ z. z.sizes) made ≡ cond (sizes_ok sizes) (Some sizes) None) (o : tried ≡ ok_or made stop) where
+  not_made : (f : Stop) → tried ≡ Err f → (sizes_ok sizes ≡ false) × (f ≡ stop)
+  not_made f i = go made (sizes_ok sizes) (sym o ∙ i) e
+    where
+      go : (m : Option Layout) (b : Bool) → ok_or m stop ≡ Err f → option_map (λ (z : Layout). z.sizes) m ≡ cond b (Some sizes) None → (b ≡ false) × (f ≡ stop)
+      go None true q h = absurd cc
+      go None false q h = (refl, cc)
+      go (Some z) b q h = absurd cc
 
-  pub sizes_bad : b ≡ false → Put r 0 was out (refused_line 1 0) → Put r 0 was out (opened_print z s at)
-  unfolding opened_print
-  sizes_bad f p = rw (sym e ∙ f) p
+  is_made : (z : Layout) → tried ≡ Ok z → (sizes_ok sizes ≡ true) × (z.sizes ≡ sizes)
+  is_made z i = go made (sizes_ok sizes) (sym o ∙ i) e
+    where
+      go : (m : Option Layout) (b : Bool) → ok_or m stop ≡ Ok z → option_map (λ (l : Layout). l.sizes) m ≡ cond b (Some sizes) None → (b ≡ true) × (z.sizes ≡ sizes)
+      go None b q h = absurd cc
+      go (Some l) true q h = let w : ◌≡◌ {A = Layout} l z = cc in (refl, ap (λ (x : Layout). x.sizes) (sym w) ∙ cc)
+      go (Some l) false q h = absurd cc
+
+  module _ (s : List ℕ) (at : ℕ) (out : Out) where
+    pub sizes_bad : {A : Type 0} (f : Stop) → tried ≡ Err f → stop.cause ≡ Refused BadSizes → stop.at ≡ 0 → Said {A = A} (Err f) out out (opened_print sizes s at)
+    unfolding opened_print
+    sizes_bad f i c p = let w = not_made f i in rw (w.0, w.1) (record { front = []; puts = puts_none out; joins = rw (c, p) })
+
+    pub sizes_good : {A : Type 0} (z : Layout) (result : Result A Stop) (mid out' : Out) (count : ℕ) → tried ≡ Ok z → count ≡ slot_count z.sizes → Puts out mid (sizes_line z.sizes)
+        → Said result mid out' (print_from (length s) z.sizes (lent (count * 3) ((z.sizes.locks + 1) * 2) (z.sizes.lanes * 14) ((z.sizes.rows + 2) * 3)) s at) → Said result out out' (opened_print sizes s at)
+    unfolding opened_print
+    sizes_good z result mid out' count i k p d =
+        let w = is_made z i in
+        rw (w.0, ← w.1)
+        (record {
+          front = sizes_line z.sizes ++ d.front;
+          puts = puts_then p d.puts;
+          joins = append_assoc (sizes_line z.sizes) d.front (last_line result) ∙ ap (λ (xs : List ℕ). sizes_line z.sizes ++ xs) (subst (λ (t : Table). d.front ++ last_line result ≡ print_from (length s) z.sizes t s at) (lent_is z count k) d.joins);
+        })
 
 -- ---- the first record
 
-pub too_long : (r : ℕ) (s was out : List ℕ) → 60000 < length s → Put r 0 was out (refused_line 11 60000) → Put r 0 was out (print_of s)
+-- where a reader stands that has found a sizes record first in the bytes s, and what is printed then
+pub record First (s : Bor (List ℕ)) (z : Sizes) (r : Reader) : Type 0 where
+  pub long : r.at ≡ 5
+  pub inside : r.at ≤ length s.now
+  pub bytes : s ≡ r.job
+  pub print : job_print s.now (record_at s.now 0) ≡ opened_print z r.job.now r.at
+
+pub first_sizes : {reader after : Reader} {s : Bor (List ℕ)} {at : ℕ} {item : Record} (z : Sizes) → (reader.job ≡ s) × (reader.at ≡ 0) → Finds reader (Some (at, item)) after → item ≡ Opens z
+    → First s z after
+first_sizes {reader} {after} {s} z new f i =
+    let w = found_some f in
+    let taken : Taken = w.taken in
+    let bytes : s ≡ after.job = sym (w.job ∙ new.0) in
+    let there : record_at s.now 0 ≡ Some taken = rw (← new.0, ← new.1) w.there in
+    let opens : taken.item ≡ Opens z = sym w.item ∙ i in
+    let l = item_long s.now 0 taken there in
+    record {
+      long = omega (arith, w.next, l.0, ap record_length opens);
+      inside = omega (arith, w.next, l.1);
+      bytes = bytes;
+      print = rw (there, opens) (cc (w.next, bytes));
+    }
+
+-- ---- the whole
+
+pub long_print : (s : List ℕ) (stop : Stop) {next at : ℕ} {was bytes out : List ℕ} → max_bytes < length s → (stop.cause ≡ Malformed) × (stop.at ≡ max_bytes) → out_bytes ≤ length was → at ≡ 0 → bytes ≡ was
+    → Put next at bytes out (stop_line stop) → Prints next was out (print_of s)
 unfolding print_of
-too_long r s was out h p = rw (lt-ltb 60000 (length s) h) p
+long_print s stop h e room i k p = printed s room (rw (lt-ltb max_bytes (length s) h) (rw (e.0, e.1, i, k) at p))
 
-module _ (r : ℕ) (s was out : List ℕ) (k : Taken) (h : length s ≤ 60000) (e : k ≡ record_at s 0) where
-  by_first : (item : Record) → k.item ≡ item → Put r 0 was out (first_print s k.next item) → Put r 0 was out (print_of s)
-  unfolding print_of
-  by_first item i p =
-      rw (le-ltb 60000 (length s) h)
-      (subst (λ (x : Taken). Put r 0 was out (first_print s x.next x.item)) e (subst⁻¹ (λ (j : Record). Put r 0 was out (first_print s k.next j)) i p))
+pub short_said : {A : Type 0} {d : Result A Stop} {was out : Out} (s : List ℕ) → length s ≤ max_bytes → Said d was out (job_print s (record_at s 0)) → Said d was out (print_of s)
+unfolding print_of
+short_said s h p = rw (le-ltb max_bytes (length s) h) p
 
-  pub first_sizes : (z : Sizes) → k.item ≡ Opens z → Put r 0 was out (opened_print z s k.next) → Put r 0 was out (print_of s)
-  first_sizes z i p = by_first (Opens z) i p
+-- one line more has room, and with the last line the print is whole
+module _ {A : Type 0} {d : Result A Stop} {was mid : Out} (s : List ℕ) (p : Said d was mid (print_of s)) (start : was.at ≡ 0) (room : out_bytes ≤ length was.bytes.now) where
+  pub last_room_lem : mid.at + 33 ≤ length mid.bytes.now
+  last_room_lem = omega (arith, p.puts.put.offset, p.puts.long, ap length p.joins, length-append p.front (last_line d), line_fits s)
 
-  pub first_start : (j : ℕ) (q : Request) → k.item ≡ Starts j q → Put r 0 was out (refused_line 11 0) → Put r 0 was out (print_of s)
-  first_start j q i p = by_first (Starts j q) i p
-
-  pub first_step : (j byte : ℕ) → k.item ≡ Steps j byte → Put r 0 was out (refused_line 11 0) → Put r 0 was out (print_of s)
-  first_step j byte i p = by_first (Steps j byte) i p
-
-  pub first_end : k.item ≡ Ends → Put r 0 was out (refused_line 11 0) → Put r 0 was out (print_of s)
-  first_end i p = by_first Ends i p
-
-  pub first_bad : k.item ≡ Bad → Put r 0 was out (refused_line 11 0) → Put r 0 was out (print_of s)
-  first_bad i p = by_first Bad i p
-
-first_long : (s : List ℕ) (k : Taken) (z : Sizes) → k ≡ record_at s 0 → k.item ≡ Opens z → (k.next ≡ 5) × (k.next ≤ length s)
-first_long s k z e i =
-    let w = item_long s 0 (Opens z) (sym (ap (λ (x : Taken). x.item) e) ∙ i) refl in
-    let n : k.next ≡ (record_at s 0).next = ap (λ (x : Taken). x.next) e in
-    (omega (arith, w.0), omega (arith, w.1))
-
-pub long_enough : (s : List ℕ) (k : Taken) (z : Sizes) → k ≡ record_at s 0 → k.item ≡ Opens z → 5 ≤ k.next
-long_enough s k z e i = omega (arith, (first_long s k z e i).0)
-
-pub in_job : (s : List ℕ) (k : Taken) (z : Sizes) → k ≡ record_at s 0 → k.item ≡ Opens z → k.next ≤ length s
-in_job s k z e i = (first_long s k z e i).1
+  pub whole_print : {next at : ℕ} {bytes out : List ℕ} → at ≡ mid.at → bytes ≡ mid.bytes.now → Put next at bytes out (last_line d) → Prints next was.bytes.now out (print_of s)
+  whole_print {next} {at} {bytes} {out} e f q =
+      let put : Put next mid.at mid.bytes.now out (last_line d) = rw (e, f) at q in
+      let all : Put next was.at was.bytes.now out (print_of s) = rw p.joins at (put_then p.puts.put put) in
+      printed s room (rw start at all)

@@ -1,75 +1,124 @@
--- The loop over the records: what is printed and what is still to come is the whole print.
+-- The loop over the records: what is put and what is still to come is the whole print.
 -- Assumes nothing.
-use mathlib.Core.Path.{◌≡◌, sym, ◌∙◌, subst, subst⁻¹}
-use mathlib.Core.Bool.{true, false, not}
-use mathlib.Core.List.{List, append-nil}
-use Prim.Native.Nat.{ℕ, zero, suc, ◌+◌, ◌*◌, ◌≤◌, ◌<◌}
+use mathlib.Core.Path.{◌≡◌, refl, sym, ◌∙◌, ap, subst}
+use mathlib.Core.Bool.{true, false}
+use mathlib.Core.List.{List, [], ◌++◌, append_assoc, append-nil}
+use Prim.Native.Nat.{ℕ, suc, ◌+◌, ◌-◌, ◌*◌, ◌≤◌, ◌<◌}
 use native.Mathlib.Omega.{arith}
 use lib.ListN.{length}
-use borrow.Author.Tests.{not-true, not-false}
+use Rattle.std.specs.Prelude.{None, Some, Result, Ok, Err, ⊤, is_some}
+use Rattle.std.specs.ControlFlow.{break_value}
+use Rattle.std.specs.declared.ops.ControlFlow.{ControlFlow}
+use Rattle.std.specs.declared.ops.ControlFlow.TheVariants.{Continue, Break}
 use Rattle.places.specs.declared.Sizes.{Sizes}
 use Rattle.machine.specs.Standing.{Table}
-use Rattle.kept.specs.Runs.{Stood}
+use Rattle.job_records.specs.declared.Record.{Record}
 use Rattle.job_records.specs.declared.Taken.{Taken}
 use Rattle.job_records.specs.Records.{record_at}
-use Rattle.prints.specs.Put.{Put}
-use Rattle.prints.proofs.Puts.{Amid, amid_start, amid_more, amid_end}
-use Rattle.jobs.specs.declared.Done.{Done}
-use Rattle.jobs.specs.Job.{came_of, print_from}
-use Rattle.jobs.specs.Obeys.{Obeys}
-use Rattle.jobs.proofs.Room.{goes_room, print_goes, print_stops}
+use Rattle.reader.specs.declared.Reader.{Reader}
+use Rattle.reader.specs.Finds.{Finds}
+use Rattle.reader.proofs.Found.{found_some, found_none}
+use Rattle.prints.specs.declared.Out.{Out}
+use Rattle.prints.specs.Put.{Puts}
+use Rattle.prints.proofs.Puts.{puts_none, puts_then}
+use Rattle.jobs.specs.declared.stop.Cause.TheVariants.{Malformed}
+use Rattle.jobs.specs.declared.stop.Stop.{Stop}
+use Rattle.jobs.specs.Job.{Came, came_of, print_from}
+use Rattle.jobs.specs.Obeys.{last_line, Said, goes_after, Obeys}
+use Rattle.jobs.proofs.Answered.{never}
+use Rattle.jobs.proofs.Room.{goes_room, print_none, print_goes, print_stops}
 
--- before the record at offset at, n bytes being used: most bounds the records that are left
-pub record Left (z : Sizes) (t : Table) (s : List ℕ) (at n start : ℕ) (was out whole : List ℕ) : Type 0 where
+-- before the record at offset at: most bounds the records that are left
+pub record Left (z : Sizes) (t : Table) (s : List ℕ) (at : ℕ) (was out : Out) (whole : List ℕ) : Type 0 where
   pub most : ℕ
   pub within : length s < at + most
   pub inside : at ≤ length s
-  pub low : n ≤ 8 * at + 10
-  pub stood : Stood z t
-  pub amid : Amid n start was out (print_from most z t s at) whole
+  pub low : out.at ≤ 8 * at + 10
+  pub front : List ℕ
+  pub puts : Puts was out front
+  pub joins : front ++ print_from most z t s at ≡ whole
 
-pub left_start : (z : Sizes) (t : Table) (s : List ℕ) (at n : ℕ) (out : List ℕ) → Stood z t → 0 < at → at ≤ length s → n ≤ 8 * at + 10
-    → Left z t s at n n out out (print_from (length s) z t s at)
-left_start z t s at n out w p h l =
-    record { most = length s; within = omega arith; inside = h; low = l; stood = w; amid = amid_start n out (print_from (length s) z t s at) }
+pub left_start : (z : Sizes) (t : Table) (s : List ℕ) (at : ℕ) (out : Out) → 0 < at → at ≤ length s → out.at ≤ 8 * at + 10 → Left z t s at out out (print_from (length s) z t s at)
+left_start z t s at out p h l = record { most = length s; within = omega arith; inside = h; low = l; front = []; puts = puts_none out; joins = refl }
 
--- one record, of which c is what it comes to
-module _ (z : Sizes) (t u : Table) (s : List ℕ) (at n start : ℕ) (was out out' whole : List ℕ) (d : Done) (l : Left z t s at n start was out whole) (o : Obeys z d n out out' u (came_of z t s at (record_at s at).item)) where
-  stops_there : d.goes ≡ false → Put d.next start was out' whole
-  stops_there g = go l.most l.within l.inside l.amid
-    where
-      go : (m : ℕ) → length s < at + m → at ≤ length s → Amid n start was out (print_from m z t s at) whole → Put d.next start was out' whole
-      go zero a b c = absurd (omega arith)
-      go (suc m) a b c = amid_end (amid_more (rw (print_stops m z t s at (sym o.goes ∙ g), ← append-nil (came_of z t s at (record_at s at).item).text) at c) o.put)
+module _ {z : Sizes} {t : Table} {s : List ℕ} {at : ℕ} {was out : Out} {whole : List ℕ} (l : Left z t s at was out whole) where
+  -- there is at least one turn left
+  turn : (m : ℕ) × (l.most ≡ suc m)
+  turn = (l.most - 1, omega (arith, l.within, l.inside))
 
-  goes_there : d.goes ≡ true → Left z u s (record_at s at).next d.next start was out' whole
-  goes_there g = go l.most l.within l.inside l.low l.amid
-    where
-      go : (m : ℕ) → length s < at + m → at ≤ length s → n ≤ 8 * at + 10 → Amid n start was out (print_from m z t s at) whole → Left z u s (record_at s at).next d.next start was out' whole
-      go zero a b low c = absurd (omega arith)
-      go (suc m) a b low c =
-          let e : (came_of z t s at (record_at s at).item).goes ≡ true = sym o.goes ∙ g in
-          let w = goes_room z t s at e in
-          record {
-            most = m;
-            within = omega (arith, w.0);
-            inside = w.1;
-            low = omega (arith, w.2, o.put.offset);
-            stood = o.stood;
-            amid = subst⁻¹ (λ (v : Table). Amid d.next start was out' (print_from m z v s (record_at s at).next) whole) o.table (amid_more (rw (print_goes m z t s at e) at c) o.put);
-          }
+  joined : l.front ++ print_from (suc turn.0) z t s at ≡ whole
+  joined = subst (λ (m : ℕ). l.front ++ print_from m z t s at ≡ whole) turn.1 l.joins
 
--- the same as the code has it: k is the record taken, and b says that the job stops
-module _ (z : Sizes) (t u : Table) (s : List ℕ) (at n start : ℕ) (was out out' whole : List ℕ) (k : Taken) (d : Done) (l : Left z t s at n start was out whole) (e : k ≡ record_at s at) (o : Obeys z d n out out' u (came_of z t s at k.item)) where
-  taken : Obeys z d n out out' u (came_of z t s at (record_at s at).item)
-  taken = subst (λ (x : Taken). Obeys z d n out out' u (came_of z t s at x.item)) e o
+  -- where no record stands
+  pub none_said : {A : Type 0} (r : Result A Stop) (stop : Stop) → r ≡ Err stop → stop.cause ≡ Malformed → stop.at ≡ at → record_at s at ≡ None → Said r was out whole
+  none_said r stop q c p e =
+      record { front = l.front; puts = l.puts; joins = rw (q, c, p) (rw (print_none turn.0 z t s at e) at joined) }
 
-  pub left_stops : not d.goes ≡ true → Put d.next start was out' whole
-  left_stops g = stops_there z t u s at n start was out out' whole d l taken (not-true d.goes g)
+  module _ (taken : Taken) (e : record_at s at ≡ Some taken) {result : Result (ControlFlow ⊤ ⊤) Stop} {out' : Out} {u : Table} (o : Obeys result out out' u (came_of z t s at taken.item)) where
+    -- where the job goes on, all is said
+    on_said : goes_after result ≡ true → Puts out out' (came_of z t s at taken.item).text
+    on_said g = go result g o.said
+      where
+        go : (r : Result (ControlFlow ⊤ ⊤) Stop) → goes_after r ≡ true → Said r out out' (came_of z t s at taken.item).text → Puts out out' (came_of z t s at taken.item).text
+        go (Ok (Continue v)) h d = subst (λ (xs : List ℕ). Puts out out' xs) (sym (append-nil d.front) ∙ d.joins) d.puts
+        go (Ok (Break v)) h d = never (sym h)
+        go (Err stop) h d = never (sym h)
 
-  pub left_goes : not d.goes ≡ false → Left z u s k.next d.next start was out' whole
-  left_goes g = subst⁻¹ (λ (x : Taken). Left z u s x.next d.next start was out' whole) e (goes_there z t u s at n start was out out' whole d l taken (not-false d.goes g))
+    -- a record that the job goes on after
+    pub left_goes : goes_after result ≡ true → Left z u s taken.next was out' whole
+    left_goes g =
+        let c : Came = came_of z t s at taken.item in
+        let on : c.goes ≡ true = sym o.goes ∙ g in
+        let w = goes_room z t s at taken e on in
+        let p = on_said g in
+        record {
+          most = turn.0;
+          within = omega (arith, w.0, turn.1, l.within);
+          inside = w.1;
+          low = omega (arith, w.2, p.put.offset, l.low);
+          front = l.front ++ c.text;
+          puts = puts_then l.puts p;
+          joins =
+              append_assoc l.front c.text (print_from turn.0 z u s taken.next)
+              ∙ ap (λ (v : Table). l.front ++ (c.text ++ print_from turn.0 z v s taken.next)) o.table
+              ∙ ap (λ (xs : List ℕ). l.front ++ xs) (sym (print_goes turn.0 z t s at taken e on))
+              ∙ joined;
+        }
 
-  pub left_less : not d.goes ≡ false → at < k.next
-  left_less g =
-      subst⁻¹ (λ (x : Taken). at < x.next) e (goes_room z t s at (sym taken.goes ∙ not-false d.goes g)).0
+    -- the last record
+    pub last_said : {A : Type 0} (r : Result A Stop) → last_line r ≡ last_line result → goes_after result ≡ false → Said r was out' whole
+    last_said r i g =
+        let c : Came = came_of z t s at taken.item in
+        let d = o.said in
+        record {
+          front = l.front ++ d.front;
+          puts = puts_then l.puts d.puts;
+          joins =
+              append_assoc l.front d.front (last_line r)
+              ∙ ap (λ (xs : List ℕ). l.front ++ (d.front ++ xs)) i
+              ∙ ap (λ (xs : List ℕ). l.front ++ xs) (d.joins ∙ sym (print_stops turn.0 z t s at taken e (sym o.goes ∙ g)))
+              ∙ joined;
+        }
+
+pub break_stops : (f : ControlFlow ⊤ ⊤) → true ≡ is_some (break_value f) → goes_after (Ok f) ≡ false
+break_stops (Continue u) e = never e
+break_stops (Break u) e = refl
+
+pub continue_goes : (f : ControlFlow ⊤ ⊤) → false ≡ is_some (break_value f) → goes_after (Ok f) ≡ true
+continue_goes (Continue u) e = refl
+continue_goes (Break u) e = never (sym e)
+
+-- a turn as the code has it: a reader that stands at the offset finds the record, or none
+module _ {z : Sizes} {t : Table} {was out : Out} {whole : List ℕ} {reader after : Reader} (l : Left z t reader.job.now reader.at was out whole) where
+  pub none_turn : {A : Type 0} (stop : Stop) → stop.cause ≡ Malformed → stop.at ≡ after.at → Finds reader None after → Said {A = A} (Err stop) was out whole
+  none_turn stop c p f = let w = found_none f in none_said l (Err stop) stop refl c (p ∙ w.1) w.0
+
+  module _ {at : ℕ} {item : Record} (f : Finds reader (Some (at, item)) after) {result : Result (ControlFlow ⊤ ⊤) Stop} {out' : Out} {u : Table} (o : Obeys result out out' u (came_of z t after.job.now at item)) where
+    o_taken : Obeys result out out' u (came_of z t reader.job.now reader.at (found_some f).taken.item)
+    o_taken = let w = found_some f in rw (w.job, w.place, w.item) at o
+
+    pub turn_goes : goes_after result ≡ true → Left z u after.job.now after.at was out' whole
+    turn_goes g = let w = found_some f in rw (w.job, w.next) (left_goes l w.taken w.there o_taken g)
+
+    pub last_turn : {A : Type 0} (r : Result A Stop) → last_line r ≡ last_line result → goes_after result ≡ false → Said r was out' whole
+    last_turn r i g = let w = found_some f in last_said l w.taken w.there o_taken r i g

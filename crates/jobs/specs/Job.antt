@@ -1,17 +1,17 @@
 -- 01, "Job file and print": what a job prints.
 -- Assumes nothing.
-use Rattle.std.specs.Prelude.{ℕ, zero, suc, ◌+◌, ◌*◌, List, [], ◌++◌, Bool, true, false, cond, eqb, ltb, length, replicate}
+use Rattle.std.specs.Prelude.{ℕ, zero, suc, ◌+◌, ◌*◌, List, [], ◌++◌, Bool, true, false, cond, ltb, length, replicate, Option, None, Some, Result, Ok, Err}
 use Rattle.places.specs.declared.Sizes.{Sizes}
 use Rattle.places.specs.Table.{sizes_ok, slot_count}
 use Rattle.paths.specs.Path.{path_places}
+use Rattle.machine.specs.declared.Refusal.{Refusal}
 use Rattle.machine.specs.declared.Request.{Request}
-use Rattle.machine.specs.declared.Stepped.{Stepped}
-use Rattle.machine.specs.declared.Stepped.TheVariants.{StepDone, StepBadSizes, StepBadLengths, StepNotStanding, StepNoLane, StepIdle}
 use Rattle.machine.specs.Lane.{lane_numbers}
 use Rattle.machine.specs.Standing.{Table}
-use Rattle.machine.specs.Desk.{after_opening, start_answer, start_number, after_start, step_answer, step_numbers, after_step}
+use Rattle.machine.specs.Desk.{refusal_number, after_opening, start_answer, after_start, step_answer, after_step}
 use Rattle.job_records.specs.declared.Record.{Record}
-use Rattle.job_records.specs.declared.Record.TheVariants.{Opens, Starts, Steps, Ends, Bad}
+use Rattle.job_records.specs.declared.Record.TheVariants.{Opens, Starts, Steps, Ends}
+use Rattle.job_records.specs.declared.Taken.{Taken}
 use Rattle.job_records.specs.Records.{record_at}
 use Rattle.lines.specs.Lines.{sizes_line, answer_line, refused_line, end_lines}
 
@@ -59,18 +59,10 @@ stopped text t = record { goes = false; text = text; table = t }
 abbrev pub refused : ℕ → ℕ → Table → Came
 refused number at t = stopped (refused_line number at) t
 
--- what a call of the desk comes to: c where it is accepted, else its refusal
-unfoldable pub answered : ℕ → ℕ → Came → Table → Came
-answered number at c t = cond (eqb number 0) c (refused number at t)
-
--- a step prints how the lane's operation ended, if it did
-abbrev pub stepped_line : ℕ → Stepped → List ℕ
-stepped_line j (StepDone a) = answer_line j a
-stepped_line j StepBadSizes = []
-stepped_line j StepBadLengths = []
-stepped_line j StepNotStanding = []
-stepped_line j StepNoLane = []
-stepped_line j StepIdle = []
+-- what a call of the desk comes to: c of its answer where it is accepted, else its refusal
+abbrev pub answered : {A : Type 0} → Result A Refusal → ℕ → (A → Came) → Table → Came
+answered (Ok a) at c t = c a
+answered (Err r) at c t = refused (refusal_number r) at t
 
 -- "6 last; a byte after it is a fault at that byte's offset, found before kind 6 prints"
 unfoldable pub end_text : Sizes → List ℕ → List ℕ → ℕ → List ℕ
@@ -78,12 +70,11 @@ end_text z xs s at = cond (ltb (at + 1) (length s)) (refused_line malformed (at 
 
 -- a start prints nothing
 abbrev pub start_came : Sizes → Table → ℕ → ℕ → Request → Came
-start_came z t at j r = answered (start_number (start_answer z t j r)) at (goes_on [] (after_start z t j r)) t
+start_came z t at j r = answered (start_answer z t j r) at (λ u. goes_on [] (after_start z t j r)) t
 
--- "A step answers that the lane goes on, or its end with the result"
+-- "A step answers that the lane goes on, or its end with the result": it prints how the lane's operation ended, if it did
 abbrev pub step_came : Sizes → Table → ℕ → ℕ → ℕ → Came
-step_came z t at j byte =
-    answered (step_numbers (step_answer z t j byte)).number at (goes_on (stepped_line j (step_answer z t j byte)) (after_step z t j byte)) t
+step_came z t at j byte = answered (step_answer z t j byte) at (λ a. goes_on (answer_line j a) (after_step z t j byte)) t
 
 -- the record whose kind byte stands at offset at; "Kind 1 stands first and once"
 abbrev pub came_of : Sizes → Table → List ℕ → ℕ → Record → Came
@@ -91,14 +82,17 @@ came_of z t s at (Opens y) = refused malformed at t
 came_of z t s at (Starts j r) = start_came z t at j r
 came_of z t s at (Steps j byte) = step_came z t at j byte
 came_of z t s at Ends = stopped (end_text z t.slots s at) t
-came_of z t s at Bad = refused malformed at t
 
--- what is printed from offset at on, of at most k records: "earlier lines stay"
+-- what is printed from offset at on, of at most k records: "earlier lines stay". Where no record stands the job is malformed
 unfoldable pub print_from : ℕ → Sizes → Table → List ℕ → ℕ → List ℕ
 print_from zero z t s at = []
 print_from (suc k) z t s at =
-    let c : Came = came_of z t s at (record_at s at).item in
-    elim c.goes [ true ↦ c.text ++ print_from k z c.table s (record_at s at).next | false ↦ c.text ]
+    elim (record_at s at) [
+      | None ↦ refused_line malformed at
+      | Some taken ↦
+          let c : Came = came_of z t s at taken.item in
+          elim c.goes [ true ↦ c.text ++ print_from k z c.table s taken.next | false ↦ c.text ]
+    ]
 
 -- what the sizes record comes to; "1: a size is out of limits". A job has at most as many records as bytes
 unfoldable pub opened_print : Sizes → List ℕ → ℕ → List ℕ
@@ -110,8 +104,12 @@ first_print s next (Opens z) = opened_print z s next
 first_print s next (Starts j r) = refused_line malformed 0
 first_print s next (Steps j byte) = refused_line malformed 0
 first_print s next Ends = refused_line malformed 0
-first_print s next Bad = refused_line malformed 0
+
+-- what is printed where this is the first record, or none
+abbrev pub job_print : List ℕ → Option Taken → List ℕ
+job_print s None = refused_line malformed 0
+job_print s (Some taken) = first_print s taken.next taken.item
 
 -- "a longer job prints only `refused 11 at 60000`"
 unfoldable pub print_of : List ℕ → List ℕ
-print_of s = cond (ltb max_bytes (length s)) (refused_line malformed max_bytes) (first_print s (record_at s 0).next (record_at s 0).item)
+print_of s = cond (ltb max_bytes (length s)) (refused_line malformed max_bytes) (job_print s (record_at s 0))

@@ -3,22 +3,26 @@
 #![tactic(auto)]
 
 mod doing;
+mod stop;
 
-ghost use Rattle.std.specs.Prelude.{◌≡◌, true, ◌++◌, ◌+◌, ◌*◌, ◌≤◌, length};
-ghost use Rattle.places.specs.Table.{sizes_ok};
-ghost use Rattle.standing.specs.Tables.{table};
-ghost use Rattle.kept.specs.Runs.{Stood};
-ghost use Rattle.prints.specs.Put.{Put};
-ghost use Rattle.lines.specs.Lines.{sizes_line};
+ghost use Rattle.std.specs.Prelude.{◌≡◌, ◌+◌, ◌*◌, ◌≤◌, length};
+ghost use Rattle.desk.specs.Lent.{lent_table, SameLists};
+ghost use Rattle.job_records.specs.Records.{record_at};
 ghost use Rattle.jobs.specs.Prints.{Prints};
-ghost use Rattle.jobs.specs.Job.{max_bytes, out_bytes, job_table, print_from, opened_print, print_of};
+ghost use Rattle.jobs.specs.Job.{max_bytes, out_bytes, print_from, job_print, print_of};
+ghost use Rattle.jobs.specs.Obeys.{Said};
 
+use desk::Standing;
 use doing::obey;
 use job_records::Record;
-use lines::{put_refusal, put_sizes};
-use places::{Sizes, sizes_ok, slot_count};
-use reader::take;
+use lines::put_sizes;
+use machine::Refusal;
+use places::Layout;
+use prints::Out;
+use reader::Reader;
 use records::LANE_NUMBERS;
+use std::ops::ControlFlow;
+use stop::{Cause, Stop, put_last};
 
 // The longest job.
 const MAX_BYTES: usize = 60000;
@@ -26,122 +30,71 @@ const MAX_BYTES: usize = 60000;
 // No print is longer.
 pub const OUT_BYTES: usize = 524288;
 
-// The refusals that a job gives by itself.
-const BAD_SIZES: u32 = 1;
-
-const MALFORMED: u32 = 11;
-
 // Memory for the largest sizes: 64 rows of 8 columns, 64 row locks and main, 8 lanes, 66 places.
-const SLOT_NUMBERS: usize = 1536;
+const SLOT_NUMBERS: usize = 64 * 8 * 3;
 
-const LOCK_NUMBERS: usize = 130;
+const LOCK_NUMBERS: usize = (64 + 1) * 2;
 
-const LANES_NUMBERS: usize = 112;
+const LANES_NUMBERS: usize = 8 * LANE_NUMBERS;
 
-const PATH_NUMBERS: usize = 198;
+const PATH_NUMBERS: usize = 66 * 3;
 
-// What a record has done: the offset after what was printed, and whether the job goes on.
-#[derive(Clone, Copy)]
-struct Done {
-    next: usize,
-    goes: bool,
-}
-
-// The records of a job from an offset on.
-fn run_records(
-    z: Sizes,
-    slots: &mut [u32],
-    locks: &mut [u32],
-    lanes: &mut [u32],
-    path: &mut [u32],
-    job: &[u8],
-    from: usize,
-    out: &mut [u8],
-    start: usize,
-) -> usize
-    requires stood { Stood z (table slots.old locks.old lanes.old path.old) }
-    requires le_from { 1 ≤ from }
-    requires from_in_bounds { from ≤ length job.now }
-    requires job_len_bound { length job.now ≤ max_bytes }
-    requires start_bound { start ≤ 8 * from + 10 }
-    requires out_bytes_in_bounds { out_bytes ≤ length out.old }
-    ensures { Put result start out.old out.new (print_from (length job.now) z (table slots.old locks.old lanes.old path.old) job.now from) }
+// The records of a job from the reader's place on.
+fn run_records(table: &mut Standing, mut reader: Reader, out: &mut Out) -> Result<(), Stop>
+    requires le_at { 1 ≤ reader.at }
+    requires at_in_bounds { reader.at ≤ length reader.job.now }
+    requires job_len_bound { length reader.job.now ≤ max_bytes }
+    requires out_at_bound { out.old.at ≤ 8 * reader.at + 10 }
+    requires out_bytes_in_bounds { out_bytes ≤ length out.old.bytes.now }
+    ensures said { Said result out.old out.new (print_from (length reader.entry.job.now) table.old.z.sizes (lent_table table.old) reader.entry.job.now reader.entry.at) }
+    ensures same { SameLists table.new table.old }
 {
-    let mut at = from;
-    let mut n = start;
-    loop {
-        let taken = take(job, at);
-        let item = taken.item;
-        let done = obey(z, slots, locks, lanes, path, job, at, out, n, item);
-        n = done.next;
-        if !done.goes {
-            return n;
+    while let Some((at, item)) = reader.next() {
+        if obey(table, reader.job, at, item, out)?.is_break() {
+            return Ok(());
         }
-        at = taken.next;
     }
+    Err(Stop::new(Cause::Malformed, reader.at))
 }
 
-// The sizes line, and the records after it over a table of zeros.
-fn run_table(z: Sizes, job: &[u8], from: usize, out: &mut [u8]) -> usize
-    requires z_value { sizes_ok z ≡ true }
-    requires le_from { 5 ≤ from }
-    requires from_in_bounds { from ≤ length job.now }
+// A job from its first byte: the sizes, and the records after them over a table of zeros.
+#[tactic(auto, using(places::proofs::Limits::slots_few))]
+fn run_sizes(job: &[u8], out: &mut Out) -> Result<(), Stop>
     requires job_len_bound { length job.now ≤ max_bytes }
-    requires out_bytes_in_bounds { out_bytes ≤ length out.old }
-    ensures { Put result 0 out.old out.new (sizes_line z ++ print_from (length job.now) z (job_table z) job.now from) }
+    requires at_start { out.old.at ≡ 0 }
+    requires out_bytes_in_bounds { out_bytes ≤ length out.old.bytes.now }
+    ensures { Said result out.old out.new (job_print job.now (record_at job.now 0)) }
 {
+    let mut reader = Reader::new(job);
+    let Some((_, Record::Opens(z))) = reader.next() else {
+        return Err(Stop::new(Cause::Malformed, 0));
+    };
+    let z = Layout::new(z).ok_or(Stop::new(Cause::Refused(Refusal::BadSizes), 0))?;
     let mut slots = [0u32; SLOT_NUMBERS];
     let mut locks = [0u32; LOCK_NUMBERS];
     let mut lanes = [0u32; LANES_NUMBERS];
     let mut path = [0u32; PATH_NUMBERS];
-    let slots_end = slot_count(z) * 3;
-    let locks_end = ((z.locks as usize) + 1) * 2;
-    let lanes_end = (z.lanes as usize) * LANE_NUMBERS;
-    let path_end = ((z.rows as usize) + 2) * 3;
-    let start = put_sizes(out, 0, z);
-    run_records(
+    let mut table = Standing {
         z,
-        &mut slots[..slots_end],
-        &mut locks[..locks_end],
-        &mut lanes[..lanes_end],
-        &mut path[..path_end],
-        job,
-        from,
-        out,
-        start,
-    )
-}
-
-// A job whose first record gives these sizes.
-fn run_sizes(z: Sizes, job: &[u8], from: usize, out: &mut [u8]) -> usize
-    requires le_from { 5 ≤ from }
-    requires from_in_bounds { from ≤ length job.now }
-    requires job_len_bound { length job.now ≤ max_bytes }
-    requires out_bytes_in_bounds { out_bytes ≤ length out.old }
-    ensures { Put result 0 out.old out.new (opened_print z job.now from) }
-{
-    if sizes_ok(z) {
-        run_table(z, job, from, out)
-    } else {
-        put_refusal(out, 0, BAD_SIZES, 0)
-    }
+        slots: &mut slots[..z.slot_count() * 3],
+        locks: &mut locks[..(z.sizes.locks as usize + 1) * 2],
+        lanes: &mut lanes[..z.sizes.lanes as usize * LANE_NUMBERS],
+        path: &mut path[..(z.sizes.rows as usize + 2) * 3],
+    };
+    put_sizes(out, z.sizes);
+    run_records(&mut table, reader, out)
 }
 
 // Puts what a job prints at the start of out, and answers how many bytes that is.
 pub fn run(job: &[u8], out: &mut [u8; OUT_BYTES]) -> usize
     ensures { Prints result out.old out.new (print_of job.now) }
 {
-    if MAX_BYTES < job.len() {
-        return put_refusal(out, 0, MALFORMED, MAX_BYTES as u32);
-    }
-    let first = take(job, 0);
-    let item = first.item;
-    let next = first.next;
-    match item {
-        Record::Opens(z) => run_sizes(z, job, next, out),
-        Record::Starts(_, _) => put_refusal(out, 0, MALFORMED, 0),
-        Record::Steps(_, _) => put_refusal(out, 0, MALFORMED, 0),
-        Record::Ends => put_refusal(out, 0, MALFORMED, 0),
-        Record::Bad => put_refusal(out, 0, MALFORMED, 0),
-    }
+    let mut print = Out { bytes: out, at: 0 };
+    let done = if MAX_BYTES < job.len() {
+        Err(Stop::new(Cause::Malformed, MAX_BYTES))
+    } else {
+        run_sizes(job, &mut print)
+    };
+    put_last(done, &mut print);
+    print.at
 }

@@ -1,6 +1,6 @@
 -- What an act does to the lent memory, by the stage of its lane: one lock word at most, at most the two slots of a swing, and the path.
 -- Assumes nothing.
-use mathlib.Core.Path.{◌≡◌, refl, ap, sym}
+use mathlib.Core.Path.{◌≡◌, refl}
 use mathlib.Core.Logic.{◌≢◌}
 use mathlib.Core.Bool.{true}
 use Prim.Native.Nat.{ℕ, ◌+◌, ◌≤◌, ◌<◌}
@@ -9,20 +9,18 @@ use lib.Dec.{ltb}
 use borrow.Author.Tests.{eqb-true, leb-true, ltb-true}
 use Rattle.lists.proofs.Below.{Each}
 use Rattle.places.specs.declared.Sizes.{Sizes}
-use Rattle.places.specs.Table.{Fits, lock_of, slot_index}
+use Rattle.places.specs.Table.{Fits, slot_index}
 use Rattle.slots.specs.declared.Slot.{Slot}
 use Rattle.locks.specs.declared.Mode.{Mode}
-use Rattle.locks.specs.declared.Mode.TheVariants.{Reading, Writing}
 use Rattle.locks.specs.declared.Grab.{Grab}
 use Rattle.locks.specs.declared.Part.TheVariants.{NoPart, Tries, Holds}
 use Rattle.paths.specs.declared.Place.{Place}
 use Rattle.paths.specs.Path.{other_row}
 use Rattle.machine.specs.declared.Side.{Side}
-use Rattle.machine.specs.declared.Side.TheVariants.{First, Second}
 use Rattle.machine.specs.declared.Stage.{Stage}
 use Rattle.machine.specs.declared.Stage.TheVariants.{Idle, TakeMain, TakeFirst, SeekFirst, TakeSecond, SeekSecond, RoomFirst, RoomSecond, WriteHit, WriteRoom, Pick, DropFirst, DropSecond, DropMain, TakeNext, LookNext, PickNext, DropNext, TakeLow, TakeHigh, Swing, DropLow, DropHigh}
 use Rattle.machine.specs.declared.Lane.{Lane}
-use Rattle.machine.specs.Steps.{path_length, main_lock, mode_of, row_on, swing_rows, sought_row}
+use Rattle.machine.specs.Steps.{path_length, row_on}
 use Rattle.machine.specs.Claims.{stage_in}
 use Prim.Native.Nat.{◌*◌}
 use lib.ListN.{length}
@@ -36,7 +34,6 @@ use Rattle.locks.proofs.Grabs.{grab_mode, part_after}
 use Rattle.machine.specs.Steps.{Memory, Performed, act_at, perform, written}
 use Rattle.machine.proofs.Shift.{Touch, touch, untouched, touch_at}
 use Rattle.kept.proofs.Words.{Turned, same_word, tried_word, freed_word}
-use Rattle.machine.proofs.Grabbing.{grab_mode_lem}
 use Rattle.machine.proofs.Swaps.{Swaps, swap_slots}
 use Rattle.kept.proofs.Facts.{PlaceFacts}
 use Rattle.kept.proofs.Long.{Lengths}
@@ -53,18 +50,10 @@ locks_stay : (ls : List ℕ) (n : ℕ) → LocksDo ls ls untouched n
 locks_stay ls n = record { off = λ k d. refl; on = λ k h e. same_word refl refl }
 
 locks_tried : (ls : List ℕ) (n k₀ : ℕ) (m : Mode) (g : Grab) → length ls ≡ n * 2 → grab_mode g ≡ m → LocksDo ls (with_lock ls k₀ (try_lock g (lock_at ls k₀)).lock) (touch k₀ (Tries g) (part_after m (try_lock g (lock_at ls k₀)).tried)) n
-locks_tried ls n k₀ m g e q =
-    record {
-      off = λ k d. lock_other ls k₀ (try_lock g (lock_at ls k₀)).lock k d;
-      on = λ k h p. rw p (tried_word g refl (ap (λ (x : Mode). part_after x (try_lock g (lock_at ls k₀)).tried) (sym q)) (lock_same ls k₀ (try_lock g (lock_at ls k₀)).lock (omega arith)));
-    }
+locks_tried ls n k₀ m g e q = grind (arith, lock_other, tried_word, lock_same)
 
 locks_freed : (ls : List ℕ) (n k₀ : ℕ) (m : Mode) → length ls ≡ n * 2 → LocksDo ls (with_lock ls k₀ (released m (lock_at ls k₀))) (touch k₀ (Holds m) NoPart) n
-locks_freed ls n k₀ m e =
-    record {
-      off = λ k d. lock_other ls k₀ (released m (lock_at ls k₀)) k d;
-      on = λ k h p. rw p (freed_word m refl refl (lock_same ls k₀ (released m (lock_at ls k₀)) (omega arith)));
-    }
+locks_freed ls n k₀ m e = grind (arith, lock_other, freed_word, lock_same)
 
 module _ (z : Sizes) (f : Fits z) (l : Lane) (last : Place) (byte : ℕ) (mem : Memory) (len : Lengths z mem) where
   abbrev Done : Stage → Performed
@@ -72,29 +61,7 @@ module _ (z : Sizes) (f : Fits z) (l : Lane) (last : Place) (byte : ℕ) (mem : 
 
   pub locks_do : (s : Stage) → Each (stage_in z l last s) → LocksDo mem.locks (perform z (act_at z l last s) byte mem).memory.locks (touch_at z l last (perform z (act_at z l last s) byte mem).seen s) (z.locks + 1)
   unfolding perform act_at
-  locks_do Idle r = locks_stay mem.locks (z.locks + 1)
-  locks_do (TakeMain g) r = locks_tried mem.locks (z.locks + 1) (main_lock z) Writing g len.locks (grab_mode_lem z Writing g r.1.0)
-  locks_do (TakeFirst g) r = locks_tried mem.locks (z.locks + 1) (lock_of z (row_on z l.key First)) (mode_of l.op) g len.locks (grab_mode_lem z (mode_of l.op) g r.1.0)
-  locks_do (SeekFirst c) r = locks_stay mem.locks (z.locks + 1)
-  locks_do (TakeSecond g) r = locks_tried mem.locks (z.locks + 1) (lock_of z (row_on z l.key Second)) (mode_of l.op) g len.locks (grab_mode_lem z (mode_of l.op) g r.1.0)
-  locks_do (SeekSecond c) r = locks_stay mem.locks (z.locks + 1)
-  locks_do (RoomFirst c) r = locks_stay mem.locks (z.locks + 1)
-  locks_do (RoomSecond c) r = locks_stay mem.locks (z.locks + 1)
-  locks_do (WriteHit side c) r = locks_stay mem.locks (z.locks + 1)
-  locks_do (WriteRoom side c) r = locks_stay mem.locks (z.locks + 1)
-  locks_do Pick r = locks_stay mem.locks (z.locks + 1)
-  locks_do (DropFirst o) r = locks_freed mem.locks (z.locks + 1) (lock_of z (row_on z l.key First)) (mode_of l.op) len.locks
-  locks_do (DropSecond o) r = locks_freed mem.locks (z.locks + 1) (lock_of z (row_on z l.key Second)) (mode_of l.op) len.locks
-  locks_do (DropMain e) r = locks_freed mem.locks (z.locks + 1) (main_lock z) Writing len.locks
-  locks_do (TakeNext g t) r = locks_tried mem.locks (z.locks + 1) (lock_of z (other_row z last)) Reading g len.locks (grab_mode_lem z Reading g r.1.0)
-  locks_do (LookNext c t) r = locks_stay mem.locks (z.locks + 1)
-  locks_do (PickNext t) r = locks_stay mem.locks (z.locks + 1)
-  locks_do (DropNext h t) r = locks_freed mem.locks (z.locks + 1) (lock_of z (sought_row z last h)) Reading len.locks
-  locks_do (TakeLow g w) r = locks_tried mem.locks (z.locks + 1) (lock_of z (swing_rows z last w).first) Writing g len.locks (grab_mode_lem z Writing g r.1.0)
-  locks_do (TakeHigh g w) r = locks_tried mem.locks (z.locks + 1) (lock_of z (swing_rows z last w).second) Writing g len.locks (grab_mode_lem z Writing g r.1.0)
-  locks_do (Swing w) r = locks_stay mem.locks (z.locks + 1)
-  locks_do (DropLow w) r = locks_freed mem.locks (z.locks + 1) (lock_of z (swing_rows z last w).first) Writing len.locks
-  locks_do (DropHigh w) r = locks_freed mem.locks (z.locks + 1) (lock_of z (swing_rows z last w).second) Writing len.locks
+  locks_do s r = grind (arith, locks_stay, locks_tried, locks_freed)
 
 -- ---- slots: one slot of a write, the two of a swing that moves, and no other
 

@@ -1,26 +1,22 @@
 -- THE THEOREM "kept": opening an accepted table gives a standing one, and every accepted start and step keeps it so.
 -- Assumes nothing.
-use mathlib.Core.Path.{◌≡◌, ◌∙◌, refl, sym, subst}
+use mathlib.Core.Path.{◌≡◌, sym, subst}
 use mathlib.Core.Logic.{◌≢◌}
-use mathlib.Core.Bool.{Bool, true, false, cond, not}
+use mathlib.Core.Bool.{true, false}
 use Prim.Native.Nat.{ℕ, ◌<◌}
 use native.Mathlib.Omega.{arith}
-use lib.Dec.{ltb}
-use borrow.Author.Tests.{eq-eqb, ltb-true}
+use Rattle.std.specs.Prelude.{⊤, Result, Ok}
 use Rattle.places.specs.declared.Sizes.{Sizes}
 use Rattle.places.specs.Table.{sizes_ok}
 use Rattle.places.proofs.Limits.{ok_fits}
 use Rattle.machine.specs.Lane.{lane_at}
-use Rattle.machine.specs.Steps.{act_of, step_lane}
+use Rattle.machine.specs.Steps.{step_lane}
 use Rattle.machine.specs.Claims.{is_idle_op}
 use Rattle.machine.proofs.Numbers.{lane_other, lane_length}
-use Rattle.paths.specs.Path.{last_of}
-use Rattle.machine.specs.declared.Started.{Started}
-use Rattle.machine.specs.declared.Started.TheVariants.{StartAccepted, StartBadSizes, StartBadLengths, StartNotStanding, StartNoLane, StartBusy, StartBadKey}
-use Rattle.machine.specs.declared.Stepped.TheVariants.{StepDone, StepBadSizes, StepBadLengths, StepNotStanding, StepNoLane, StepIdle}
+use Rattle.machine.specs.declared.Refusal.{Refusal}
 use Rattle.machine.specs.declared.Request.{Request}
 use Rattle.machine.specs.Standing.{Table, standing}
-use Rattle.machine.specs.Desk.{lengths_ok, opening_number, after_opening, start_answer, start_number, after_start, memory_of, turned, step_answer, step_numbers, after_step}
+use Rattle.machine.specs.Desk.{lengths_ok, opening_number, after_opening, start_answer, start_number, after_start, turned, step_answer, step_numbers, after_step}
 use Rattle.kept.specs.Runs.{Reached, by_opening, by_start, by_step, Stood}
 use Rattle.kept.proofs.Long.{lengths_of, lanes_of, lengths_ok_lem, act_lengths}
 use Rattle.kept.proofs.Checked.{Standing, standing_facts, facts_standing}
@@ -30,14 +26,8 @@ use Rattle.kept.proofs.Stepping.{step_stands}
 
 -- ---- what acceptance says
 
-pub accepted : (a : Started) → start_number a ≡ 0 → a ≡ StartAccepted
-accepted StartAccepted e = refl
-accepted StartBadSizes e = absurd (omega arith)
-accepted StartBadLengths e = absurd (omega arith)
-accepted StartNotStanding e = absurd (omega arith)
-accepted StartNoLane e = absurd (omega arith)
-accepted StartBusy e = absurd (omega arith)
-accepted StartBadKey e = absurd (omega arith)
+pub accepted : (a : Result ⊤ Refusal) → start_number a ≡ 0 → a ≡ Ok tt
+accepted a e = grind arith
 
 -- a step that is accepted passed every test
 pub record StepAccepted (z : Sizes) (t : Table) (j : ℕ) : Type 0 where
@@ -50,21 +40,11 @@ pub record StepAccepted (z : Sizes) (t : Table) (j : ℕ) : Type 0 where
 module _ (z : Sizes) (t : Table) (j byte : ℕ) (e : (step_numbers (step_answer z t j byte)).number ≡ 0) where
   pub step_tested : StepAccepted z t j
   unfolding step_answer
-  step_tested = go (sizes_ok z) (lengths_ok z t) (standing z t) (ltb j z.lanes) (is_idle_op (lane_at t.lanes j).op) refl refl refl refl refl e
-    where
-      go : (a b c d i : Bool) → sizes_ok z ≡ a → lengths_ok z t ≡ b → standing z t ≡ c → ltb j z.lanes ≡ d → is_idle_op (lane_at t.lanes j).op ≡ i
-          → (step_numbers (cond (not a) StepBadSizes (cond (not b) StepBadLengths (cond (not c) StepNotStanding (cond (not d) StepNoLane (cond i StepIdle (StepDone (turned z t j byte).answer))))))).number ≡ 0
-          → StepAccepted z t j
-      go true true true true false p q r s u h = record { sizes = p; lengths = q; stands = r; lane = ltb-true j z.lanes s; busy = u }
-      go true true true true true p q r s u h = absurd (omega arith)
-      go true true true false i p q r s u h = absurd (omega arith)
-      go true true false d i p q r s u h = absurd (omega arith)
-      go true false c d i p q r s u h = absurd (omega arith)
-      go false b c d i p q r s u h = absurd (omega arith)
+  step_tested = grind arith
 
   pub step_is : after_step z t j byte ≡ (turned z t j byte).table
   unfolding after_step
-  step_is = rw (eq-eqb (step_numbers (step_answer z t j byte)).number 0 e) refl
+  step_is = grind arith
 
   turned_stands : Standing z (turned z t j byte).table
   turned_stands =
@@ -73,10 +53,7 @@ module _ (z : Sizes) (t : Table) (j byte : ℕ) (e : (step_numbers (step_answer 
 
   turned_lengths : lengths_ok z (turned z t j byte).table ≡ true
   unfolding turned step_lane
-  turned_lengths =
-      lengths_ok_lem z (turned z t j byte).table
-      (act_lengths z (act_of z (lane_at t.lanes j) (last_of t.path _)) byte (memory_of t) (lengths_of z t step_tested.lengths))
-      (lane_length t.lanes j _ ∙ lanes_of z t step_tested.lengths)
+  turned_lengths = grind (arith, lengths_ok_lem, act_lengths, lengths_of, step_tested, lane_length, lanes_of)
 
 -- of the lane records a step changes only its own
 pub lanes_framed : (z : Sizes) (t : Table) (j byte k : ℕ) → k ≢ j → lane_at (turned z t j byte).table.lanes k ≡ lane_at t.lanes k
@@ -91,7 +68,7 @@ kept_opening z t e =
 
 pub kept_start : (z : Sizes) (t : Table) (j : ℕ) (r : Request) → start_number (start_answer z t j r) ≡ 0 → Stood z (after_start z t j r)
 kept_start z t j r e =
-    let a : start_answer z t j r ≡ StartAccepted = accepted (start_answer z t j r) e in
+    let a : start_answer z t j r ≡ Ok tt = accepted (start_answer z t j r) e in
     record { sizes = (start_tested z t j r a).sizes; lengths = start_lengths z t j r a; stands = facts_standing z (after_start z t j r) (start_kept z t j r a) }
 
 pub kept_step : (z : Sizes) (t : Table) (j byte : ℕ) → (step_numbers (step_answer z t j byte)).number ≡ 0 → Stood z (after_step z t j byte)

@@ -1,8 +1,8 @@
 -- An accepted opening leaves a table that stands: no lane has begun, no lock is taken, the path is empty, and the slots are as they were.
 -- Assumes nothing.
-use mathlib.Core.Path.{◌≡◌, refl, sym, ap, subst}
+use mathlib.Core.Path.{◌≡◌, sym, ap, subst}
 use mathlib.Core.List.{List}
-use mathlib.Core.Bool.{Bool, true, false, cond, not}
+use mathlib.Core.Bool.{true}
 use Prim.Native.Nat.{ℕ, ◌+◌, ◌<◌}
 use native.Mathlib.Omega.{arith}
 use lib.ListN.{length}
@@ -12,7 +12,7 @@ use Rattle.lists.proofs.Sums.{sum_none}
 use Rattle.places.specs.declared.Sizes.{Sizes}
 use Rattle.places.specs.Table.{sizes_ok}
 use Rattle.slots.specs.Slot.{slot_at}
-use Rattle.slots.specs.Sound.{sound, finding, opening_fault}
+use Rattle.slots.specs.Sound.{sound}
 use Rattle.slots.proofs.Facts.{sound_facts}
 use Rattle.slots.proofs.Opening.{opening_sound}
 use Rattle.locks.specs.declared.Lock.{Lock}
@@ -25,8 +25,7 @@ use Rattle.paths.specs.Path.{place_at, no_place, emptied}
 use Rattle.paths.proofs.Views.{emptied_at, emptied_length}
 use Rattle.machine.specs.declared.Lane.{Lane}
 use Rattle.machine.specs.Lane.{lane_at, decodes, idle_lane}
-use Rattle.machine.specs.Steps.{path_length}
-use Rattle.machine.specs.Claims.{lane_in, grip_of, share, claims_of}
+use Rattle.machine.specs.Claims.{lane_in, claims_of}
 use Rattle.machine.proofs.Numbers.{opened_lane, opened_decodes}
 use Rattle.machine.specs.Standing.{Table}
 use Rattle.machine.specs.Desk.{lengths_ok, opened, opening_number, after_opening}
@@ -54,18 +53,16 @@ emptied_lock ls k = opened_lock (length ls) k
 
 module _ (z : Sizes) (σ : ℕ → Lane) (π : ℕ → Place) (idle : (j : ℕ) → σ j ≡ idle_lane) where
   parts_none : (f : Part → ℕ) → Measure f → (k : ℕ) → parts z f σ π k ≡ 0
-  parts_none f μ k =
-      sum_none z.lanes (λ j. share z f (grip_of z (σ j) (last_for π (σ j))) k)
-      (λ j l. subst (λ (s : Lane). share z f (grip_of z s (last_for π s)) k ≡ 0) (sym (idle j)) (idle_share z f μ (last_for π idle_lane) k))
+  parts_none f h k = grind (arith, sum_none, idle_share)
 
   used_none : used z σ ≡ 0
-  used_none = sum_none z.lanes (λ j. path_length (σ j).stage) (λ j l. ap (λ (s : Lane). path_length s.stage) (idle j))
+  used_none = grind (arith, sum_none)
 
 counts_none : (w : Lock) (f c wr rd : ℕ) → w.flag ≡ 0 → w.count ≡ 0 → f ≡ 0 → c ≡ 0 → wr ≡ 0 → rd ≡ 0 → Counts w f c wr rd
 counts_none w f c wr rd ew ec a b p q = omega arith
 
 path_none : (z : Sizes) (π : ℕ → Place) (n : ℕ) → n ≡ 0 → ((i : ℕ) → π i ≡ no_place) → PathFacts z π n
-path_none z π n e h = record { places = λ i l. absurd (omega arith); links = λ i l. absurd (omega arith); rest = λ i l b. h i }
+path_none z π n e h = grind arith
 
 -- ---- opening
 
@@ -105,18 +102,13 @@ opening_stands z t e =
 
 pub opened_lengths : (z : Sizes) (t : Table) → lengths_ok z t ≡ true → lengths_ok z (opened t) ≡ true
 unfolding lengths_ok opened
-opened_lengths z t e = rw (emptied_length t.locks, emptied_length t.lanes, emptied_length t.path) e
+opened_lengths z t e = grind (arith, emptied_length)
 
 module _ (z : Sizes) (t : Table) (e : (opening_number z t).number ≡ 0) where
   -- what an accepted opening has tested
   pub opening_tested : (sizes_ok z ≡ true) × (lengths_ok z t ≡ true) × (sound z t.slots ≡ true)
   unfolding opening_number
-  opening_tested = go (sizes_ok z) (lengths_ok z t) refl refl e
-    where
-      go : (a b : Bool) → sizes_ok z ≡ a → lengths_ok z t ≡ b → (cond (not a) (finding 1 0) (cond (not b) (finding 2 0) (opening_fault z t.slots))).number ≡ 0 → (sizes_ok z ≡ true) × (lengths_ok z t ≡ true) × (sound z t.slots ≡ true)
-      go true true p q h = (p, q, opening_sound z t.slots h)
-      go true false p q h = absurd (omega arith)
-      go false b p q h = absurd (omega arith)
+  opening_tested = grind (arith, opening_sound)
 
   pub opening_is : after_opening z t ≡ opened t
   unfolding after_opening
@@ -126,4 +118,4 @@ module _ (z : Sizes) (t : Table) (e : (opening_number z t).number ≡ 0) where
   opening_kept = subst (Standing z) (sym opening_is) (opening_stands z t opening_tested.2)
 
   pub opening_lengths : lengths_ok z (after_opening z t) ≡ true
-  opening_lengths = subst (λ (u : Table). lengths_ok z u ≡ true) (sym opening_is) (opened_lengths z t opening_tested.1)
+  opening_lengths = grind (arith, opening_is, opened_lengths, opening_tested)

@@ -1,13 +1,11 @@
 -- A step keeps the path in order: it stays, a place is put on it, the last one leaves it, or it is emptied, and only by the lane
 -- that holds main.
 -- Assumes nothing.
-use mathlib.Core.Path.{◌≡◌, refl, ap, ◌∙◌}
+use mathlib.Core.Path.{◌≡◌, refl, ◌∙◌}
 use mathlib.Core.Logic.{◌≢◌}
-use mathlib.Core.Bool.{cond}
 use Prim.Native.Nat.{ℕ, zero, suc, ◌+◌, ◌-◌, ◌<◌}
 use native.Mathlib.Decide.{ℕ_discrete}
 use native.Mathlib.Omega.{arith}
-use lib.Dec.{eqb}
 use Rattle.lists.specs.Below.{sum_below}
 use Rattle.lists.proofs.Sums.{sum_change, sum_none}
 use Rattle.places.specs.declared.Sizes.{Sizes}
@@ -26,34 +24,7 @@ pub data PathDoes (Nobody : Type 0) (z : Sizes) (π π' : ℕ → Place) (n n' :
 
 -- the path facts of the lane's own n places
 own_path : (N : Type 0) (z : Sizes) (π π' : ℕ → Place) (n n' : ℕ) → PathDoes N z π π' n n' → PathFacts z π n → PathFacts z π' n'
-own_path N z π π' n n' (stays e same) h = rw e (record { places = λ i l. rw (same i) (h.places i l); links = λ i l. rw (same (i + 1), same i) (h.links i l); rest = λ i a b. same i ∙ h.rest i a b })
-own_path N z π π' n n' (grows nobody p e good link here there) h = rw e (record { places = places; links = links; rest = λ i a b. there i (omega arith) ∙ h.rest i (omega arith) b })
-  where
-    places : (i : ℕ) → i < n + 1 → PlaceFacts z (π' i)
-    places i l = elim (ℕ_discrete i n) [
-      | yes q ↦ rw (q, here) good
-      | no q ↦ rw (there i q) (h.places i (omega arith))
-    ]
-
-    links : (i : ℕ) → i + 1 < n + 1 → (π' (i + 1)).row ≡ other_row z (π' i)
-    links i l = elim (ℕ_discrete (i + 1) n) [
-      | yes q ↦
-          let a : n - 1 ≡ i = omega arith in
-          let b : p.row ≡ other_row z (π i) = rw a at (link (λ y. omega arith)) in
-          rw (q, here, there i (omega arith)) b
-      | no q ↦ rw (there (i + 1) q, there i (omega arith)) (h.links i (omega arith))
-    ]
-own_path N z π π' n n' (shrinks nobody e here there) h =
-    record {
-      places = λ i l. rw (there i (omega arith)) (h.places i (omega arith));
-      links = λ i l. rw (there (i + 1) (omega arith), there i (omega arith)) (h.links i (omega arith));
-      rest = λ i a b. elim (ℕ_discrete i n') [
-        | yes q ↦ rw q here
-        | no q ↦ there i q ∙ h.rest i (omega arith) b
-      ];
-    }
-own_path N z π π' n n' (clears nobody e none) h =
-    record { places = λ i l. absurd (omega arith); links = λ i l. absurd (omega arith); rest = λ i a b. none i }
+own_path N z π π' n n' k h = grind arith
 
 -- a sum of which only one term counts
 pub sum_only : (n i : ℕ) (f : ℕ → ℕ) → i < n → ((j : ℕ) → j < n → j ≢ i → f j ≡ 0) → sum_below n f ≡ f i
@@ -93,13 +64,4 @@ module _ (z : Sizes) (σ σ' : ℕ → Lane) (π π' : ℕ → Place) (i : ℕ) 
         go (clears none e off) = by_mine none
 
     pub lasts_kept : PathDoes Nobody z π π' n n' → (j : ℕ) → j < z.lanes → j ≢ i → last_for π' (σ j) ≡ last_for π (σ j)
-    lasts_kept d j l q = go d
-      where
-        idle : Nobody → last_for π' (σ j) ≡ last_for π (σ j)
-        idle none = rw (none j l q) refl
-
-        go : PathDoes Nobody z π π' n n' → last_for π' (σ j) ≡ last_for π (σ j)
-        go (stays e same) = ap (λ (p : Place). cond (eqb (path_length (σ j).stage) 0) no_place p) (same (path_length (σ j).stage - 1))
-        go (grows none p e good link at off) = idle none
-        go (shrinks none e at off) = idle none
-        go (clears none e off) = idle none
+    lasts_kept d j l q = grind arith

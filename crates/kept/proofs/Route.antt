@@ -2,7 +2,7 @@
 -- Assumes nothing.
 use mathlib.Core.Path.{◌≡◌, refl, ap, sym, ◌∙◌}
 use mathlib.Core.Logic.{◌≢◌}
-use mathlib.Core.Bool.{Bool, true, false, cond, false≢true}
+use mathlib.Core.Bool.{Bool, true, false, cond}
 use Prim.Native.Nat.{ℕ, ◌+◌, ◌-◌, ◌≤◌, ◌<◌}
 use native.Mathlib.Omega.{arith}
 use lib.Dec.{eqb}
@@ -10,7 +10,6 @@ use borrow.Author.Tests.{eqb-true, ne_eqb, leb-true}
 use Rattle.lists.proofs.Below.{Each}
 use Rattle.places.specs.declared.Sizes.{Sizes}
 use Rattle.places.specs.Table.{Fits, slot_index}
-use Rattle.slots.specs.declared.Slot.{Slot}
 use Rattle.slots.specs.Slot.{is_full}
 use Rattle.paths.specs.declared.Place.{Place}
 use Rattle.paths.specs.Path.{other_row}
@@ -37,22 +36,13 @@ use Rattle.kept.proofs.Facts.{last_in, PlaceFacts}
 use Rattle.kept.proofs.Long.{Lengths}
 use Rattle.machine.proofs.Follows.{Follows}
 use Rattle.machine.proofs.Route.{next_length, changes_path}
-use Rattle.kept.proofs.Path.{PathDoes, stays, grows, shrinks, clears}
+use Rattle.kept.proofs.Path.{PathDoes, stays, grows, clears}
 use Rattle.kept.proofs.Stores.{at_homes}
 
 module _ (z : Sizes) (f : Fits z) (l : Lane) (last : Place) (byte : ℕ) (mem : Memory) (len : Lengths z mem) (sv : SoundSlots z (slot_at mem.slots)) (N : Type 0) where
-  abbrev v : ℕ → Slot
-  v = slot_at mem.slots
-
   -- a pair picked from a full row is in range and at home
   picked_facts : (row c : ℕ) → row < z.rows → c < z.columns → ((i : ℕ) → i < z.columns → is_full (slot_at mem.slots (slot_index z row i)) ≡ true) → PlaceFacts z (place_of z mem row c)
-  picked_facts row c lr lc full =
-      record {
-        row_in = lr;
-        column_in = lc;
-        key_in = key_range (v (slot_index z row c)) (sv.shaped (slot_index z row c) (slot_in_lem z f row c lr lc));
-        home = rw (slot_row z f row c lc) at (sv.at_home (slot_index z row c) (slot_in_lem z f row c lr lc) (full c lc));
-      }
+  picked_facts row c lr lc full = grind (arith, key_range, slot_in_lem, slot_row)
 
   first_row : (b : Bool) → cond b (home_one z l.key) (home_two z l.key) < z.rows
   first_row true = (homes z f).one_in l.key
@@ -74,8 +64,7 @@ module _ (z : Sizes) (f : Fits z) (l : Lane) (last : Place) (byte : ℕ) (mem : 
       grows nobody p refl good link (rw e (place_same mem.path i p (omega (arith, len.path)))) (λ j d. place_other mem.path i p j (λ q. d (q ∙ sym e)))
 
   take_off : (n : ℕ) → 1 ≤ n → n ≤ z.rows + 2 → N → PathDoes N z (place_at mem.path) (place_at (with_place mem.path (n - 1) no_place)) n (n - 1)
-  take_off n a b nobody =
-      shrinks nobody (omega arith) (place_same mem.path (n - 1) no_place (omega (arith, len.path))) (λ j d. place_other mem.path (n - 1) no_place j d)
+  take_off n a b nobody = grind (arith, place_same, place_other)
 
   pub path_do : (s : Stage) → Each (stage_in z l last s) → Claimed z (slot_at mem.slots) l.key (claims_at z l last s) → last ≡ last_in (place_at mem.path) (path_length s) → (changes_path s ≡ true → N) → PathDoes N z (place_at mem.path) (place_at (perform z (act_at z l last s) byte mem).memory.path) (path_length s) (next_length z last s)
   unfolding perform act_at claims_at
@@ -113,51 +102,11 @@ module _ (z : Sizes) (f : Fits z) (l : Lane) (last : Place) (byte : ℕ) (mem : 
 
 -- ---- the last place
 
--- the last of one place more, and of one less
-last_put : (π : ℕ → Place) (n : ℕ) → last_in π (n + 1) ≡ π n
-last_put π n =
-    let e : n + 1 - 1 ≡ n = omega arith in
-    rw (ne_eqb (n + 1) 0 (λ q. omega arith), e) refl
-
 module _ (z : Sizes) (f : Fits z) (l : Lane) (last last' : Place) (byte : ℕ) (mem : Memory) (len : Lengths z mem) where
   -- a place before the last: the last one is in its other row
   before_last : (n : ℕ) → ((i : ℕ) → i + 1 < n → (place_at mem.path (i + 1)).row ≡ other_row z (place_at mem.path i)) → 1 ≤ n → n - 1 ≢ 0 → last ≡ last_in (place_at mem.path) n → last' ≡ last_in (place_at (with_place mem.path (n - 1) no_place)) (n - 1) → last.row ≡ other_row z last'
-  before_last n h a d e e' =
-      let x : last ≡ place_at mem.path (n - 1) = e ∙ rw (ne_eqb n 0 (λ q. omega arith)) refl in
-      let y : last' ≡ place_at mem.path (n - 1 - 1) = e' ∙ (rw (ne_eqb (n - 1) 0 d) refl ∙ place_other mem.path (n - 1) no_place (n - 1 - 1) (λ q. omega arith)) in
-      let k : n - 1 - 1 + 1 ≡ n - 1 = omega arith in
-      let q : (place_at mem.path (n - 1)).row ≡ other_row z (place_at mem.path (n - 1 - 1)) = rw k at (h (n - 1 - 1) (omega arith)) in
-      ap (λ (p : Place). p.row) x ∙ (q ∙ ap (λ (p : Place). other_row z p) (sym y))
+  before_last n h a d e e' = grind (arith, place_other)
 
   pub follows : (s : Stage) → Each (stage_in z l last s) → ((i : ℕ) → i + 1 < path_length s → (place_at mem.path (i + 1)).row ≡ other_row z (place_at mem.path i)) → last ≡ last_in (place_at mem.path) (path_length s) → last' ≡ last_in (place_at (perform z (act_at z l last s) byte mem).memory.path) (next_length z last s) → Follows z s last last'
   unfolding perform act_at
-  follows Idle r h e e' = tt
-  follows (TakeMain g) r h e e' = e' ∙ sym e
-  follows (TakeFirst g) r h e e' = e' ∙ sym e
-  follows (SeekFirst c) r h e e' = e' ∙ sym e
-  follows (TakeSecond g) r h e e' = e' ∙ sym e
-  follows (SeekSecond c) r h e e' = e' ∙ sym e
-  follows (RoomFirst c) r h e e' = e' ∙ sym e
-  follows (RoomSecond c) r h e e' = e' ∙ sym e
-  follows (WriteHit side c) r h e e' = e' ∙ sym e
-  follows (WriteRoom side c) r h e e' = e' ∙ sym e
-  follows Pick r h e e' = tt
-  follows (DropFirst o) r h e e' = e' ∙ sym e
-  follows (DropSecond o) r h e e' = e' ∙ sym e
-  follows (DropMain d) r h e e' = tt
-  follows (TakeNext g t) r h e e' = e' ∙ sym e
-  follows (LookNext c t) r h e e' = e' ∙ sym e
-  follows (PickNext t) r h e e' =
-      ap (λ (p : Place). p.row)
-      (e' ∙ (last_put (place_at (with_place mem.path t.places (place_of z mem (other_row z last) (byte % z.columns)))) t.places
-      ∙ place_same mem.path t.places (place_of z mem (other_row z last) (byte % z.columns)) (omega (arith, len.path, leb-true t.picks z.rows r.1.0, eqb-true t.places (t.picks + 1) r.1.1.0))))
-  follows (DropNext g t) r h e e' = e' ∙ sym e
-  follows (TakeLow g w) r h e e' = e' ∙ sym e
-  follows (TakeHigh g w) r h e e' = e' ∙ sym e
-  follows (Swing w) r h e e' = e' ∙ sym e
-  follows (DropLow w) r h e e' = (λ q. (go (swing_rows z last w).shared e').0 q, λ q d. (go (swing_rows z last w).shared e').1 q d)
-    where
-      go : (b : Bool) → last' ≡ last_in (place_at (tailed (cond b (TakeOff (w.places - 1)) Keep) mem.path)) (cond b (w.places - 1) w.places) → (b ≡ false → last' ≡ last) × (b ≡ true → w.places - 1 ≢ 0 → last.row ≡ other_row z last')
-      go true x = (λ q. absurd (false≢true (sym q)), λ q d. before_last w.places h (leb-true 1 w.places r.1.0) d e x)
-      go false x = (λ q. x ∙ sym e, λ q. absurd (false≢true q))
-  follows (DropHigh w) r h e e' = λ d. before_last w.places h (leb-true 1 w.places r.1.1.0) d e e'
+  follows s r h e e' = grind (arith, before_last, place_same)

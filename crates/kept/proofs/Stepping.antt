@@ -1,15 +1,14 @@
 -- An accepted step keeps the standing check, and the lengths of what is lent.
 -- Assumes nothing.
-use mathlib.Core.Path.{◌≡◌, refl, ap, subst, sym, ◌∙◌}
+use mathlib.Core.Path.{◌≡◌, refl, ap, sym, ◌∙◌}
 use mathlib.Core.Logic.{◌≢◌}
-use mathlib.Core.Bool.{true, false, ◌||◌, false≢true}
-use Prim.Native.Nat.{ℕ, ◌+◌, ◌-◌, ◌≤◌, ◌<◌}
+use mathlib.Core.Bool.{true, false, false≢true}
+use Prim.Native.Nat.{ℕ, ◌+◌, ◌≤◌, ◌<◌}
 use native.Mathlib.Omega.{arith}
-use lib.Dec.{ltb}
-use borrow.Author.Tests.{eqb-false, eq-eqb, ne_eqb, ltb-true, ltb-false}
+use borrow.Author.Tests.{ltb-true}
 use Rattle.lists.proofs.Below.{Each}
 use Rattle.places.specs.declared.Sizes.{Sizes}
-use Rattle.places.specs.Table.{Fits, lock_of, max_key, slot_index}
+use Rattle.places.specs.Table.{Fits, lock_of, slot_index}
 use Rattle.slots.specs.declared.Slot.{Slot}
 use Rattle.slots.specs.Slot.{is_empty, is_full}
 use Rattle.locks.specs.declared.Mode.TheVariants.{Reading, Writing}
@@ -28,7 +27,6 @@ use native.Mathlib.Decide.{ℕ_discrete}
 use lib.ListN.{length}
 use Prim.Native.Nat.{◌*◌}
 use Rattle.lists.proofs.Sums.{sum_at}
-use Rattle.lists.proofs.Below.{or_left}
 use Rattle.places.proofs.Limits.{slot_in_lem}
 use Rattle.places.proofs.Locking.{lock_in}
 use Rattle.slots.specs.Slot.{slot_at}
@@ -66,10 +64,7 @@ use Rattle.kept.proofs.Slots.{SlotsKept, slots_kept}
 -- a slot of good shape is empty or full
 solid_slot : (s : Slot) → bad_shape s ≡ false → is_empty s ≡ false → is_full s ≡ true
 unfolding bad_shape
-solid_slot s b e =
-    let m : s.mark ≤ 1 = ltb-false 1 s.mark (or_left (ltb 1 s.mark) (ltb max_key s.key) (or_left (ltb 1 s.mark || ltb max_key s.key) _ b)) in
-    let n : s.mark ≢ 0 = eqb-false s.mark 0 e in
-    eq-eqb s.mark 1 (omega arith)
+solid_slot s b e = grind arith
 
 module _ (z : Sizes) (f : Fits z) (l : Lane) (last : Place) (byte : ℕ) (mem : Memory) where
   abbrev D : Stage → Seen
@@ -77,29 +72,7 @@ module _ (z : Sizes) (f : Fits z) (l : Lane) (last : Place) (byte : ℕ) (mem : 
 
   pub looks : (s : Stage) → Looks z (slot_at mem.slots) l last (perform z (act_at z l last s) byte mem).seen s
   unfolding perform act_at
-  looks Idle = tt
-  looks (TakeMain g) = tt
-  looks (TakeFirst g) = tt
-  looks (SeekFirst c) = refl
-  looks (TakeSecond g) = tt
-  looks (SeekSecond c) = refl
-  looks (RoomFirst c) = refl
-  looks (RoomSecond c) = refl
-  looks (WriteHit side c) = tt
-  looks (WriteRoom side c) = tt
-  looks Pick = tt
-  looks (DropFirst o) = tt
-  looks (DropSecond o) = tt
-  looks (DropMain e) = tt
-  looks (TakeNext g t) = tt
-  looks (LookNext c t) = refl
-  looks (PickNext t) = tt
-  looks (DropNext x t) = tt
-  looks (TakeLow g u) = tt
-  looks (TakeHigh g u) = tt
-  looks (Swing u) = tt
-  looks (DropLow u) = tt
-  looks (DropHigh u) = tt
+  looks s = grind arith
 
   pub solid : SoundSlots z (slot_at mem.slots) → (s : Stage) → Each (stage_in z l last s) → is_empty (perform z (act_at z l last s) byte mem).seen.slot ≡ false → is_full (perform z (act_at z l last s) byte mem).seen.slot ≡ true
   unfolding perform act_at
@@ -208,7 +181,7 @@ module _ (z : Sizes) (f : Fits z) (t : Table) (len : Lengths z (memory_of t)) (l
   within_used = sum_at z.lanes i (λ j. path_length (σ j).stage) hi
 
   pub last_facts : path_length s ≢ 0 → PlaceFacts z last
-  last_facts d = rw (ne_eqb (path_length s) 0 d) (facts.path.places (path_length s - 1) (omega (arith, within_used)))
+  last_facts d = grind (arith, within_used)
 
   nobody : changes_path s ≡ true → Nobody z σ σ' π π' i
   nobody c j hj d = elim (ℕ_discrete (path_length (σ j).stage) 0) [
@@ -241,7 +214,7 @@ module _ (z : Sizes) (f : Fits z) (t : Table) (len : Lengths z (memory_of t)) (l
   lasts = lasts_kept z σ σ' π π' i (path_length s) (next_length z last s) hi refl next_here lane_lengths route
 
   alone_here : Alone z σ σ' π π' i m.lane
-  alone_here = record { within = hi; here = here; there = λ j hj d. there j d; lasts = lasts }
+  alone_here = grind (arith, here, there, lasts)
 
   few : (k : ℕ) → k < z.locks + 1 → (lock_at t.locks k).count ≤ z.lanes
   few k h = omega (arith, (facts.locks k h).count_is, counts_few z σ π facts.range k)
@@ -260,12 +233,7 @@ module _ (z : Sizes) (f : Fits z) (t : Table) (len : Lengths z (memory_of t)) (l
   words = locks_do z f l last byte (memory_of t) len s range.1.1
 
   ranges : (j : ℕ) → j < z.lanes → Each (lane_in z (σ' j) (last_for π' (σ' j)))
-  ranges j hj =
-      let InRange : Lane → Place → Type 0 = λ x last. Each (lane_in z x last) in
-      elim (ℕ_discrete j i) [
-        | yes e ↦ subst (λ x. InRange x (last_for π' x)) (sym here ∙ ap σ' (sym e)) range'
-        | no d ↦ subst (λ x. InRange x (last_for π' x)) (sym (there j d)) (subst (InRange (σ j)) (sym (lasts j hj d)) (facts.range j hj))
-      ]
+  ranges j hj = grind (arith, here, range', there, lasts)
 
   stands' : Stands z (slot_at after.slots) (lock_at after.locks) σ' π'
   stands' =
@@ -278,10 +246,7 @@ module _ (z : Sizes) (f : Fits z) (t : Table) (len : Lengths z (memory_of t)) (l
       }
 
   decoded' : (j : ℕ) → j < z.lanes → decodes (with_lane t.lanes i m.lane) j ≡ true
-  decoded' j hj = elim (ℕ_discrete j i) [
-    | yes e ↦ rw e (decodes_same t.lanes i m.lane (omega (arith, long)))
-    | no d ↦ decodes_other t.lanes i m.lane j d ∙ st.decoded j hj
-  ]
+  decoded' j hj = grind (arith, decodes_same, decodes_other)
 
   pub step_stands : Standing z (turned z t i byte).table
   unfolding turned step_lane last_of

@@ -2,10 +2,9 @@
 -- Assumes nothing.
 use mathlib.Core.Path.{◌≡◌, refl, ap, sym, ◌∙◌}
 use mathlib.Core.Logic.{◌≢◌}
-use mathlib.Core.Bool.{Bool, true, false, cond}
+use mathlib.Core.Bool.{Bool, cond}
 use Prim.Native.Nat.{ℕ, zero, suc, ◌+◌, ◌-◌, ◌≤◌, ◌<◌}
 use native.Mathlib.Omega.{arith}
-use lib.Dec.{eqb}
 use borrow.Author.Tests.{eq-eqb, ne_eqb}
 use Rattle.lists.proofs.Below.{Each}
 use Rattle.places.specs.declared.Sizes.{Sizes}
@@ -18,7 +17,6 @@ use Rattle.machine.specs.declared.Lane.{Lane}
 use Rattle.machine.specs.declared.Seen.{Seen}
 use Rattle.machine.specs.declared.Moved.{Moved}
 use Rattle.machine.specs.declared.Grip.{Grip}
-use Rattle.machine.specs.Steps.{main_lock}
 use Rattle.machine.specs.Claims.{lane_in, stage_in, on_lock, share, grip_of}
 use Rattle.machine.proofs.Ways.{Goes}
 use Rattle.lists.specs.Below.{sum_below}
@@ -44,23 +42,17 @@ arrives (Tries g) = grab_count g
 arrives (Holds m) = 0
 
 flag_parts : (p : Part) → part_flag p ≡ part_writes p + early p
-flag_parts NoPart = refl
-flag_parts (Tries g) = omega arith
-flag_parts (Holds m) = omega arith
+flag_parts p = grind arith
 
 count_parts : (p : Part) → part_count p ≡ part_reads p + arrives p
-count_parts NoPart = refl
-count_parts (Tries g) = omega arith
-count_parts (Holds m) = omega arith
+count_parts p = grind arith
 
 on_sum : (b : Bool) (m n o : ℕ) → m ≡ n + o → cond b m 0 ≡ cond b n 0 + cond b o 0
-on_sum true m n o e = e
-on_sum false m n o e = omega arith
+on_sum b m n o e = grind arith
 
 -- a measure that is the sum of two, over a lane and over all lanes
 share_sum : (z : Sizes) (f h e : Part → ℕ) → ((p : Part) → f p ≡ h p + e p) → (g : Grip) (k : ℕ) → share z f g k ≡ share z h g k + share z e g k
-share_sum z f h e q g k =
-    omega (arith, on_sum (eqb k (main_lock z)) _ _ _ (q g.main), on_sum (eqb k g.one.lock) _ _ _ (q g.one.part), on_sum (eqb k g.two.lock) _ _ _ (q g.two.part))
+share_sum z f h e q g k = grind (arith, on_sum)
 
 sum_sum : (n : ℕ) (f h e : ℕ → ℕ) → ((j : ℕ) → f j ≡ h j + e j) → sum_below n f ≡ sum_below n h + sum_below n e
 unfolding sum_below
@@ -97,8 +89,7 @@ free_numbers m w F C W R E A F' C' W' R' ef ec h tf tc tw tr =
 
 -- a lock's count is at most the number of lanes
 pub counts_few : (z : Sizes) (σ : ℕ → Lane) (π : ℕ → Place) → ((j : ℕ) → j < z.lanes → Each (lane_in z (σ j) (last_for π (σ j)))) → (k : ℕ) → parts z part_count σ π k ≤ z.lanes
-counts_few z σ π h k =
-    sum_few z.lanes (λ j. share z part_count (grip_of z (σ j) (last_for π (σ j))) k) (λ j l. count_one z (σ j) (last_for π (σ j)) (h j l) k)
+counts_few z σ π h k = grind (arith, sum_few, count_one)
 
 -- the two measures that make up the flag's and the count's
 early_measure : Measure early

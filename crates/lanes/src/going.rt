@@ -1,59 +1,53 @@
 // Where a lane goes after its act, by its stage. Values in, a value out, no memory.
 ghost use Rattle.std.specs.Prelude.{◌≡◌};
-ghost use Rattle.places.specs.Table.{Fits};
-ghost use Rattle.machine.specs.Steps.{advance_at, advance};
+ghost use Rattle.machine.specs.Steps.{advance};
 ghost use Rattle.acts.specs.Fitting.{StageFits};
 
-use machine::{Lane, Moved, Outcome, Seen, Stage};
+use acts::Turn;
+use machine::{Moved, Outcome, Seen, Side, Stage};
 use moves::{
-    after_attempt, after_swing, drop_first, drop_low, ends, goes_to, insert_end, leave, look_next,
-    picked_next, room_first, room_second, seek_first, seek_second, took_first, took_high, took_low,
-    took_main, took_next, took_second,
+    after_attempt, after_low, after_swing, drop_first, drop_low, ends, goes_to, insert_end, leave,
+    look_next, picked_next, room, row_grab, seek_first, seek_second,
 };
-use paths::Place;
-use places::Sizes;
 
-fn advance_at(z: Sizes, lane: Lane, last: Place, seen: Seen, stage: Stage) -> Moved
-    requires fits { Fits z }
-    requires stage_fits { StageFits z stage }
-    ensures { result ≡ advance_at z lane last seen stage }
+// The lane after its act, by what the act saw.
+#[tactic(auto, unfolding(machine::specs::Steps::advance_at, acts::specs::Fitting::StageFits))]
+pub fn advance(turn: Turn, seen: Seen) -> Moved
+    requires { StageFits turn.z.sizes turn.lane.stage }
+    ensures { result ≡ advance turn.z.sizes turn.lane turn.last seen }
 {
-    let op = lane.op;
-    let tried = seen.tried;
-    let s = seen.slot;
-    match stage {
-        Stage::Idle => goes_to(lane, Stage::Idle),
-        Stage::TakeMain(g) => goes_to(lane, took_main(op, tried)),
-        Stage::TakeFirst(g) => goes_to(lane, took_first(tried)),
+    let Turn { z, lane, last } = turn;
+    let Seen { tried, slot: s } = seen;
+    let to = |stage| goes_to(lane, stage);
+    match lane.stage {
+        Stage::Idle => to(Stage::Idle),
+        Stage::TakeMain(_) => to(tried.map_or(
+            Stage::TakeFirst(row_grab(lane.op)),
+            Stage::TakeMain,
+        )),
+        Stage::TakeFirst(_) => to(tried.map_or(Stage::SeekFirst(0), Stage::TakeFirst)),
         Stage::SeekFirst(column) => seek_first(z, lane, s, column),
-        Stage::TakeSecond(g) => goes_to(lane, took_second(tried)),
-        Stage::SeekSecond(column) => seek_second(z, lane, s, column),
-        Stage::RoomFirst(column) => goes_to(lane, room_first(z, s, column)),
-        Stage::RoomSecond(column) => goes_to(lane, room_second(z, op, s, column)),
-        Stage::WriteHit(side, column) => goes_to(lane, Stage::DropFirst(Outcome::Wrote(side))),
-        Stage::WriteRoom(side, column) => goes_to(lane, Stage::DropFirst(Outcome::Filled)),
-        Stage::Pick => goes_to(lane, Stage::DropFirst(Outcome::Picked)),
+        Stage::TakeSecond(_) => to(tried.map_or(Stage::SeekSecond(0), Stage::TakeSecond)),
+        Stage::SeekSecond(column) => seek_second(z.sizes, lane, s, column),
+        Stage::RoomFirst(column) => to(room(z.sizes, lane.op, s, Side::First, column)),
+        Stage::RoomSecond(column) => to(room(z.sizes, lane.op, s, Side::Second, column)),
+        Stage::WriteHit(side, _) => to(Stage::DropFirst(Outcome::Wrote(side))),
+        Stage::WriteRoom(..) => to(Stage::DropFirst(Outcome::Filled)),
+        Stage::Pick => to(Stage::DropFirst(Outcome::Picked)),
         Stage::DropFirst(o) => drop_first(z, lane, o),
         Stage::DropSecond(o) => leave(lane, o),
         Stage::DropMain(e) => ends(insert_end(e)),
-        Stage::TakeNext(g, t) => goes_to(lane, took_next(tried, t)),
-        Stage::LookNext(column, t) => goes_to(lane, look_next(z, s, column, t)),
-        Stage::PickNext(t) => goes_to(lane, picked_next(t)),
-        Stage::DropNext(f, t) => goes_to(lane, after_attempt(z, last, f, t)),
-        Stage::TakeLow(g, w) => goes_to(lane, took_low(z, last, tried, w)),
-        Stage::TakeHigh(g, w) => goes_to(lane, took_high(tried, w)),
-        Stage::Swing(w) => goes_to(lane, Stage::DropLow(w)),
+        Stage::TakeNext(_, t) => to(tried.map_or(Stage::LookNext(0, t), |g| Stage::TakeNext(g, t))),
+        Stage::LookNext(column, t) => to(look_next(z.sizes, s, column, t)),
+        Stage::PickNext(t) => to(picked_next(t)),
+        Stage::DropNext(found, t) => to(after_attempt(z, last, found, t)),
+        Stage::TakeLow(_, w) => match tried {
+            Some(g) => to(Stage::TakeLow(g, w)),
+            None => to(after_low(z, last, w)),
+        },
+        Stage::TakeHigh(_, w) => to(tried.map_or(Stage::Swing(w), |g| Stage::TakeHigh(g, w))),
+        Stage::Swing(w) => to(Stage::DropLow(w)),
         Stage::DropLow(w) => drop_low(z, lane, last, w),
         Stage::DropHigh(w) => after_swing(lane, last, w.places - 1),
     }
-}
-
-// The lane after its act; last is the last place on its path.
-pub fn advance(z: Sizes, lane: Lane, last: Place, seen: Seen) -> Moved
-    requires fits { Fits z }
-    requires stage_fits { StageFits z lane.stage }
-    ensures { result ≡ advance z lane last seen }
-{
-    let stage = lane.stage;
-    advance_at(z, lane, last, seen, stage)
 }

@@ -1,28 +1,30 @@
 // One step of a lane: its act, what the act does to the lent memory, and where the lane goes.
-ghost use Rattle.machine.specs.Steps.{step_lane};
-ghost use Rattle.acts.specs.Fitting.{memory};
+ghost use Rattle.std.specs.Prelude.{◌≡◌, ◌*◌, ◌≤◌, length};
+ghost use Rattle.paths.specs.Path.{last_of};
+ghost use Rattle.machine.specs.Steps.{path_length, step_lane};
+ghost use Rattle.acts.specs.Lent.{memory_of};
 ghost use Rattle.lanes.specs.Fitting.{StepFits, Steps};
 
 use super::going::advance;
-use acts::{act_of, path_length, perform};
-use machine::{Lane, Moved};
-use paths::last_of;
-use places::Sizes;
+use acts::{LentMemory, Turn, path_length};
+use machine::{Lane, Moved, Stage};
+use paths::{Place, last_of};
 
-pub fn step_lane(
-    z: Sizes,
-    lane: Lane,
-    byte: u8,
-    slots: &mut [u32],
-    locks: &mut [u32],
-    path: &mut [u32],
-) -> Moved
-    requires { StepFits z (memory slots.old locks.old path.old) lane }
-    ensures { Steps result slots.new locks.new path.new (step_lane z (memory slots.old locks.old path.old) lane byte) }
+// The last place on the path of a lane at that stage.
+fn last_on(m: &LentMemory, stage: Stage) -> Place
+    requires { path_length stage * 3 ≤ length m.now.path.now }
+    ensures { result ≡ last_of m.now.path.now (path_length stage) }
 {
-    let stage = lane.stage;
-    let last = last_of(path, path_length(stage));
-    let act = act_of(z, lane, last);
-    let seen = perform(z, act, byte, slots, locks, path);
-    advance(z, lane, last, seen)
+    last_of(m.path, path_length(stage))
+}
+
+#[tactic(auto, unfolding(machine::specs::Steps::step_lane))]
+pub fn step_lane(m: &mut LentMemory, lane: Lane, byte: u8) -> Moved
+    requires { StepFits m.old.z.sizes (memory_of m.old) lane }
+    ensures { Steps result m.old m.new (step_lane m.old.z.sizes (memory_of m.old) lane byte) }
+{
+    let last = last_on(m, lane.stage);
+    let turn = Turn { z: m.z, lane, last };
+    let seen = m.perform(turn.act(), byte);
+    advance(turn, seen)
 }

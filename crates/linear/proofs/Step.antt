@@ -16,97 +16,33 @@ use Rattle.linear.proofs.Logs.{count, lane_of, op_young, end_young, lane_young, 
 use Rattle.linear.proofs.Deeds.{Deed, deed, Pairs, Shown, Ghost, idle, waits, has, Live, Told, Inv, pairs_map, same_deed}
 
 pub inv_open : (x₀ : Bindings) (σ : ℕ → Ghost) (own : ℕ → ℕ) → ((i : ℕ) → σ i ≡ idle) → Inv x₀ x₀ σ own [] []
-inv_open x₀ σ own e =
-    record {
-      plays = refl;
-      once = tt;
-      in_time = tt;
-      shown = λ d m. absurd m;
-      finished = λ k a h. absurd (none-ne-some a h);
-      each = λ i. rw (e i) tt;
-      runs = λ k i l h. absurd (none-ne-some i l);
-    }
+inv_open x₀ σ own e = grind arith
 
 module _ (x₀ x x' : Bindings) (σ σ' : ℕ → Ghost) (own : ℕ → ℕ) (log : List Note) (ds : List Deed) (v : Inv x₀ x σ own log ds) where
   pub inv_quiet : x' ≡ x → ((j : ℕ) → σ' j ≡ σ j) → Inv x₀ x' σ' own log ds
-  inv_quiet ex es =
-      record {
-        plays = rw ex v.plays;
-        once = v.once;
-        in_time = v.in_time;
-        shown = v.shown;
-        finished = v.finished;
-        each = λ i. rw (es i) (v.each i);
-        runs = λ k i l h. rw (es i) (v.runs k i l h);
-      }
+  inv_quiet ex es = grind arith
 
   deed_young : (d : Deed) → In d ds → d.num < count log
   deed_young d m = op_young log d.num d.op (v.shown d m).0
 
   -- what is told of another lane's operation survives a new deed, a new end, a new start
   told_deed : (st : Ghost) (j k : ℕ) (e : Deed) → (lane_of log e.num ≢ some j) → Told st j k log ds → Told st j k log (e ∷ ds)
-  told_deed idle j k e d t = tt
-  told_deed (waits o) j k e d t = (t.0, t.1, t.2, out)
-    where
-      out : (f : Deed) → In f (e ∷ ds) → f.num ≢ k
-      out f (inl q) h = d (ap (λ (n : ℕ). lane_of log n) (ap (λ (y : Deed). y.num) (sym q) ∙ h) ∙ t.1)
-      out f (inr m) h = t.3 f m h
-  told_deed (has o a) j k e d t = (inr t.0, t.1, t.2)
+  told_deed st j k e d t = grind arith
 
   told_end : (st : Ghost) (i j k : ℕ) (a : Ans) (es : List Deed) → j ≢ i → Told st j k log es → Told st j k (log ++ ends i a ∷ []) es
-  told_end idle i j k a es d t = tt
-  told_end (waits o) i j k a es d t = (op_end i a log k ∙ t.0, lane_end i a log k ∙ t.1, go (end_cases i a log k), t.3)
-    where
-      go : (end_of (log ++ ends i a ∷ []) k ≡ end_of log k) ⊎ ((lane_of log k ≡ some i) × (end_of log k ≡ none)) → end_of (log ++ ends i a ∷ []) k ≡ none
-      go (inl e) = e ∙ t.2
-      go (inr e) = absurd (d (let q : some j ≡ some i = sym t.1 ∙ e.0 in cc))
-  told_end (has o b) i j k a es d t = (t.0, lane_end i a log k ∙ t.1, go (end_cases i a log k))
-    where
-      go : (end_of (log ++ ends i a ∷ []) k ≡ end_of log k) ⊎ ((lane_of log k ≡ some i) × (end_of log k ≡ none)) → end_of (log ++ ends i a ∷ []) k ≡ none
-      go (inl e) = e ∙ t.2
-      go (inr e) = absurd (d (let q : some j ≡ some i = sym t.1 ∙ e.0 in cc))
+  told_end st i j k a es d t = grind (arith, op_end, lane_end, end_cases)
 
   told_start : (st : Ghost) (i j k : ℕ) (o : Op) → Told st j k log ds → Told st j k (log ++ starts i o ∷ []) ds
-  told_start idle i j k o t = tt
-  told_start (waits p) i j k o t =
-      (op_old i o log k (op_young log k p t.0) ∙ t.0, lane_old i o log k (λ q. omega (arith, op_young log k p t.0)) ∙ t.1, end_start i o log k ∙ t.2, t.3)
-  told_start (has p a) i j k o t =
-      (t.0, lane_old i o log k (λ q. omega (arith, lane_young log k j t.1)) ∙ t.1, end_start i o log k ∙ t.2)
+  told_start st i j k o t = grind (arith, op_old, lane_old, end_start, lane_young)
 
   module _ (i : ℕ) (es : (j : ℕ) → j ≢ i → σ' j ≡ σ j) where
     -- nobody stands after one that began after its end: of a note more
     in_time_lem : (n : Note) → Pairs (λ d e. Earlier (log ++ n ∷ []) d.num e.num → ⊥) ds
-    in_time_lem n =
-        pairs_map (λ d e. Earlier log d.num e.num → ⊥) (λ d e. Earlier (log ++ n ∷ []) d.num e.num → ⊥) ds
-        (λ d e md me c h. c (rw (until_old log n e.num (deed_young e me)) at h)) v.in_time
+    in_time_lem n = grind (arith, pairs_map, until_old, deed_young)
 
     -- an operation takes its place in the order
     pub inv_take : (o : Op) (a : Ans) → σ i ≡ waits o → σ' i ≡ has o a → is_no a ≡ false → Gives o a x → x' ≡ after o (some a) x → Inv x₀ x' σ' own log (deed (own i) o a ∷ ds)
-    inv_take o a e e' y g ex =
-        record {
-          plays = (x, v.plays, ex, g);
-          once = (λ y m h. w.3 y m (sym h), v.once);
-          in_time = (λ y m h. absurd (none-ne-some h.0 (sym w.2 ∙ earlier_finished log (own i) y.num h.0 h.1)), v.in_time);
-          shown = shown;
-          finished = λ k b h. let r : _ = v.finished k b h in (r.0, inr r.1, r.2);
-          each = λ j. one j (ℕ_discrete j i);
-          runs = λ k j l h. live k j (ℕ_discrete j i) (v.runs k j l h);
-        }
-      where
-        w : Told (waits o) i (own i) log ds
-        w = rw e at (v.each i)
-
-        shown : (f : Deed) → In f (deed (own i) o a ∷ ds) → Shown log f
-        shown f (inl q) = rw q (w.0, inr (w.2, y))
-        shown f (inr m) = v.shown f m
-
-        live : (k j : ℕ) → Dec (j ≡ i) → Live (σ j) × (own j ≡ k) → Live (σ' j) × (own j ≡ k)
-        live k j (yes q) h = (rw (q, e') tt, h.1)
-        live k j (no q) h = (rw (es j q) h.0, h.1)
-
-        one : (j : ℕ) → Dec (j ≡ i) → Told (σ' j) j (own j) log (deed (own i) o a ∷ ds)
-        one j (yes q) = rw (q, e') (inl refl, w.1, w.2)
-        one j (no q) = rw (es j q) (told_deed (σ j) j (own j) (deed (own i) o a) (λ h. q (let p : some i ≡ some j = sym w.1 ∙ h in cc)) (v.each j))
+    inv_take o a e e' y g ex = grind (arith, earlier_finished)
 
     -- the lane's operation ends: what the log then says of it and of the others
     module _ (a : Ans) (lane : lane_of log (own i) ≡ some i) (unended : end_of log (own i) ≡ none) (free : σ' i ≡ idle) where

@@ -1,27 +1,16 @@
 -- The full slots, one after the other: a turn of the loop that prints them.
 -- Assumes nothing.
-use mathlib.Core.Path.{◌≡◌, sym, ◌∙◌}
-use mathlib.Core.Bool.{Bool, true, false}
+use mathlib.Core.Path.{◌≡◌}
 use mathlib.Core.List.{List, ◌++◌}
-use Prim.Native.Nat.{ℕ, suc, ◌+◌, ◌-◌, ◌≤◌, ◌<◌, ◌/◌, ◌%◌}
+use Prim.Native.Nat.{ℕ, suc, ◌+◌, ◌-◌, ◌≤◌, ◌<◌}
 use native.Mathlib.Omega.{arith}
 use Rattle.places.specs.declared.Sizes.{Sizes}
-use Rattle.places.specs.Table.{row_at, slot_count}
+use Rattle.places.specs.Table.{slot_count}
 use Rattle.slots.specs.declared.Slot.{Slot}
-use Rattle.slots.specs.Slot.{slot_at, is_full}
+use Rattle.slots.specs.Slot.{slot_at}
 use Rattle.prints.specs.Put.{Put}
-use Rattle.prints.proofs.Puts.{Amid, amid_start, amid_more, amid_end, put_none}
-use Rattle.lines.specs.Lines.{pair_line, slot_line, slot_lines_from, slot_lines}
-
-pub full_slot_lem : (r at i : ℕ) (z : Sizes) (s : Slot) (b : Bool) (was out : List ℕ) → b ≡ is_full s → b ≡ true → Put r at was out (pair_line (i / z.columns) (i % z.columns) s) → Put r at was out (slot_line z i s)
-unfolding slot_line row_at
-full_slot_lem r at i z s b was out e t p = rw (sym e ∙ t) p
-
-pub no_slot : (at i : ℕ) (z : Sizes) (s : Slot) (b : Bool) (was : List ℕ) → b ≡ is_full s → b ≡ false → Put at at was was (slot_line z i s)
-unfolding slot_line
-no_slot at i z s b was e f = rw (sym e ∙ f) (put_none at was)
-
--- ---- the loop
+use Rattle.prints.proofs.Puts.{Amid, amid_start, amid_more, amid_end}
+use Rattle.lines.specs.Lines.{slot_line, slot_lines_from, slot_lines}
 
 pub lines_start : (z : Sizes) (xs out : List ℕ) (at n : ℕ) → n ≡ slot_count z → Amid at at out out (slot_lines_from z xs (n - 0) 0) (slot_lines z xs)
 lines_start z xs out at n e = let q : n - 0 ≡ slot_count z = omega arith in rw q (amid_start at out (slot_lines z xs))

@@ -1,3 +1,2 @@
-mod Joined
 pub mod Lengths
 mod Full

@@ -1,13 +1,12 @@
 -- 01, "What the table holds" and "Steps": a lock's two words, taking it, releasing it.
 -- Assumes nothing.
-use Rattle.std.specs.Prelude.{ℕ, ◌+◌, ◌-◌, List, [], ◌∷◌, cond, eqb}
+use Rattle.std.specs.Prelude.{ℕ, ◌+◌, ◌-◌, List, [], ◌∷◌, cond, eqb, Some, None}
 use Rattle.lists.specs.Records.{cell, put}
 use Rattle.locks.specs.declared.Lock.{Lock}
 use Rattle.locks.specs.declared.Mode.{Mode}
 use Rattle.locks.specs.declared.Mode.TheVariants.{Reading, Writing}
 use Rattle.locks.specs.declared.Grab.{Grab}
 use Rattle.locks.specs.declared.Grab.TheVariants.{R1, R2, R3, R4, W1, W2}
-use Rattle.locks.specs.declared.Tried.TheVariants.{Held, Waits}
 use Rattle.locks.specs.declared.AfterTry.{AfterTry}
 use Rattle.locks.specs.declared.Part.{Part}
 use Rattle.locks.specs.declared.Part.TheVariants.{NoPart, Tries, Holds}
@@ -29,10 +28,10 @@ with_count w c = record { flag = w.flag; count = c }
 
 -- a step that takes the lock, and one after which the lane is still at it
 abbrev pub held : Lock → AfterTry
-held w = record { lock = w; tried = Held }
+held w = record { lock = w; tried = None }
 
 abbrev pub waits : Lock → Grab → AfterTry
-waits w g = record { lock = w; tried = Waits g }
+waits w g = record { lock = w; tried = Some g }
 
 -- how taking a lock begins: at R1 for reading, at W1 for writing
 abbrev pub grab_of : Mode → Grab

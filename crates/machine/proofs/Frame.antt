@@ -1,20 +1,19 @@
 -- What an accepted step may change: by its act, one lock, at most the two slots of a swing, one place of the path or all of it; and
 -- of the lane records only its own. It goes on, or it ends and leaves an idle lane.
 -- Assumes nothing.
-use mathlib.Core.Path.{◌≡◌, refl, ap, sym, ◌∙◌}
+use mathlib.Core.Path.{◌≡◌, refl, ap}
 use mathlib.Core.Logic.{◌⊎◌, inl, inr, ◌≢◌}
-use mathlib.Core.List.{List}
-use mathlib.Core.Bool.{Bool, true, false, cond, ◌&&◌}
+use mathlib.Core.Bool.{false}
 use Prim.Native.Nat.{ℕ}
 use native.Mathlib.Omega.{arith}
 use Rattle.places.specs.declared.Sizes.{Sizes}
 use Rattle.places.specs.Table.{slot_index}
-use Rattle.slots.specs.Slot.{slot_at, with_slot, is_empty, holds, empty_slot}
+use Rattle.slots.specs.Slot.{slot_at}
 use Rattle.slots.proofs.Views.{slot_other}
-use Rattle.locks.specs.Locks.{lock_at, try_lock, released}
+use Rattle.locks.specs.Locks.{lock_at}
 use Rattle.locks.proofs.Views.{lock_other}
 use Rattle.paths.specs.declared.Place.{Place}
-use Rattle.paths.specs.Path.{place_at, no_place}
+use Rattle.paths.specs.Path.{place_at}
 use Rattle.paths.proofs.Views.{place_other}
 use Rattle.machine.specs.declared.Outcome.{Outcome}
 use Rattle.machine.specs.declared.Stage.{Stage}
@@ -27,13 +26,11 @@ use Rattle.machine.specs.declared.Act.{Act}
 use Rattle.machine.specs.declared.Act.TheVariants.{Rest, Try, Release, Look, Store, PickOne, PickFrom, Move}
 use Rattle.machine.specs.declared.Tail.TheVariants.{Keep, TakeOff, Clear}
 use Rattle.machine.specs.declared.Ending.{Ending}
-use Rattle.machine.specs.declared.Ending.TheVariants.{Yes, Searched, Walked}
 use Rattle.machine.specs.declared.Op.{Op}
-use Rattle.machine.specs.declared.Op.TheVariants.{NoOp, Read, Delete, Insert, Again}
 use Rattle.machine.specs.Lane.{idle_lane}
-use Rattle.machine.specs.Steps.{Memory, perform, swung, after_miss, insert_end}
+use Rattle.machine.specs.Steps.{Memory, perform, after_miss, insert_end}
 use Rattle.machine.specs.Claims.{is_idle_op}
-use Rattle.machine.proofs.Ways.{Leaves, leaves_hit, leaves_ended, leaves_wrote, leaves_filled, leaves_miss, leaves_picked, leaves_stuck, Swings, swings_again, swings_on, Goes, rests, main_waits, main_held, first_waits, first_held, first_read, first_hit, first_more, first_shared, first_apart, second_waits, second_held, second_read, second_hit, second_more, second_miss, second_room, room_first, room_first_more, room_first_full, room_second, room_second_more, room_pick, room_stuck, wrote_hit, wrote_room, picked_first, drops_on, drops_one, drops_two_lem, drops_main, next_waits, next_held, next_free, next_more, next_full, next_picked, next_walk, next_over, next_again, low_waits, low_shared, low_apart, high_waits, high_held, swings, drops_low, drops_both, drops_high}
+use Rattle.machine.proofs.Ways.{Leaves, leaves_hit, leaves_ended, leaves_wrote, leaves_filled, leaves_miss, leaves_picked, leaves_stuck, Swings, Goes, rests, main_waits, main_held, first_waits, first_held, first_read, first_hit, first_more, first_shared, first_apart, second_waits, second_held, second_read, second_hit, second_more, second_miss, second_room, room_first, room_first_more, room_first_full, room_second, room_second_more, room_pick, room_stuck, wrote_hit, wrote_room, picked_first, drops_on, drops_one, drops_two_lem, drops_main, next_waits, next_held, next_free, next_more, next_full, next_picked, next_walk, next_over, next_again, low_waits, low_shared, low_apart, high_waits, high_held, swings, drops_low, drops_both, drops_high}
 
 module _ (z : Sizes) (byte : ℕ) (m : Memory) where
   -- locks: only the one that the act names
@@ -52,14 +49,7 @@ module _ (z : Sizes) (byte : ℕ) (m : Memory) where
 
   pub locks_framed : (a : Act) (k : ℕ) → NotTaken a k → SameLock a k
   unfolding perform
-  locks_framed Rest k d = refl
-  locks_framed (Try i g) k d = lock_other m.locks i (try_lock g (lock_at m.locks i)).lock k d
-  locks_framed (Release i mode tail) k d = lock_other m.locks i (released mode (lock_at m.locks i)) k d
-  locks_framed (Look row column) k d = refl
-  locks_framed (Store row column s) k d = refl
-  locks_framed (PickOne one two) k d = refl
-  locks_framed (PickFrom row i) k d = refl
-  locks_framed (Move from row column) k d = refl
+  locks_framed a k d = grind (arith, lock_other)
 
   -- slots: only the one stored, or the two of a swing
   abbrev pub NotStored : Act → ℕ → Type 0
@@ -72,29 +62,9 @@ module _ (z : Sizes) (byte : ℕ) (m : Memory) where
   NotStored (PickFrom row i) k = Unit {0}
   NotStored (Move from row column) k = (k ≢ slot_index z from.row from.column) × (k ≢ slot_index z row column)
 
-  swing_framed : (xs : List ℕ) (from : Place) (row column k : ℕ) → k ≢ slot_index z from.row from.column → k ≢ slot_index z row column → slot_at (swung z xs from row column) k ≡ slot_at xs k
-  swing_framed xs from row column k a b = go (holds (slot_at xs i) from.key && is_empty (slot_at xs j))
-    where
-      i : ℕ
-      i = slot_index z from.row from.column
-
-      j : ℕ
-      j = slot_index z row column
-
-      go : (t : Bool) → slot_at (cond t (with_slot (with_slot xs i empty_slot) j (slot_at xs i)) xs) k ≡ slot_at xs k
-      go true = slot_other (with_slot xs i empty_slot) j (slot_at xs i) k b ∙ slot_other xs i empty_slot k a
-      go false = refl
-
   pub slots_framed : (a : Act) (k : ℕ) → NotStored a k → slot_at (perform z a byte m).memory.slots k ≡ slot_at m.slots k
   unfolding perform
-  slots_framed Rest k d = refl
-  slots_framed (Try i g) k d = refl
-  slots_framed (Release i mode tail) k d = refl
-  slots_framed (Look row column) k d = refl
-  slots_framed (Store row column s) k d = slot_other m.slots (slot_index z row column) s k d
-  slots_framed (PickOne one two) k d = refl
-  slots_framed (PickFrom row i) k d = refl
-  slots_framed (Move from row column) k d = swing_framed m.slots from row column k d.0 d.1
+  slots_framed a k d = grind (arith, slot_other)
 
   -- the path: only the place put on it or taken off, unless main's release empties it. That the lane then holds main is `main_at`
   abbrev pub NotPlaced : Act → ℕ → Type 0
@@ -111,16 +81,7 @@ module _ (z : Sizes) (byte : ℕ) (m : Memory) where
 
   pub path_framed : (a : Act) (k : ℕ) → NotPlaced a k → place_at (perform z a byte m).memory.path k ≡ place_at m.path k
   unfolding perform
-  path_framed Rest k d = refl
-  path_framed (Try i g) k d = refl
-  path_framed (Release i mode Keep) k d = refl
-  path_framed (Release i mode (TakeOff n)) k d = place_other m.path n no_place k d
-  path_framed (Release i mode Clear) k d = absurd d
-  path_framed (Look row column) k d = refl
-  path_framed (Store row column s) k d = refl
-  path_framed (PickOne one two) k d = place_other _ _ _ k d
-  path_framed (PickFrom row i) k d = place_other _ _ _ k d
-  path_framed (Move from row column) k d = refl
+  path_framed a k d = grind (arith, place_other)
 
 -- ---- it goes on, or it ends
 
@@ -142,16 +103,10 @@ apart c e = omega (arith, ap code e)
 
 module _ (l : Lane) where
   miss_ends : (op : Op) → after_miss op ≢ GoesOn
-  miss_ends NoOp e = apart refl e
-  miss_ends Read e = apart refl e
-  miss_ends Delete e = apart refl e
-  miss_ends Insert e = apart refl e
-  miss_ends Again e = apart refl e
+  miss_ends op e = grind arith
 
   main_ends : (e : Ending) → insert_end e ≢ GoesOn
-  main_ends Yes e = apart refl e
-  main_ends (Searched n) e = apart refl e
-  main_ends Walked e = apart refl e
+  main_ends e h = grind arith
 
   leaves_answer : (o : Outcome) (m : Moved) → Leaves l o m → Answers l m
   leaves_answer o m leaves_hit = inr (λ q. apart refl q, refl)
@@ -164,8 +119,7 @@ module _ (l : Lane) where
 
 module _ (z : Sizes) (l : Lane) (last : Place) (seen : Seen) where
   swings_answer : (left : ℕ) (m : Moved) → is_idle_op l.op ≡ false → Swings l last left m → Answers l m
-  swings_answer left m b (swings_again e) = inl (refl, sym b)
-  swings_answer left m b (swings_on e) = inl (refl, refl)
+  swings_answer left m b h = grind arith
 
   pub answers : is_idle_op l.op ≡ false → (s : Stage) (m : Moved) → Goes z l last seen s m → Answers l m
   answers b s m rests = inl (refl, refl)

@@ -17,3 +17,4 @@ pub mod Picks
 pub mod Own
 pub mod Refused
 pub mod Released
+pub mod RefusalNumbers

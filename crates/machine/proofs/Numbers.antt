@@ -13,93 +13,8 @@ use Rattle.lists.specs.Below.{all_below}
 use Rattle.lists.specs.Records.{cell}
 use Rattle.lists.proofs.Below.{all_from}
 use Rattle.lists.proofs.Records.{cell_same, cell_other, put_length, zeros_at, cell_zeros}
-use Rattle.locks.specs.declared.Grab.{Grab}
-use Rattle.locks.specs.declared.Grab.TheVariants.{R1, R2, R3, R4, W1, W2}
-use Rattle.machine.specs.declared.Op.{Op}
-use Rattle.machine.specs.declared.Op.TheVariants.{NoOp, Read, Delete, Insert, Again}
-use Rattle.machine.specs.declared.Side.{Side}
-use Rattle.machine.specs.declared.Side.TheVariants.{First, Second}
-use Rattle.machine.specs.declared.Trail.{Trail}
-use Rattle.machine.specs.declared.Outcome.{Outcome}
-use Rattle.machine.specs.declared.Outcome.TheVariants.{Hit, Wrote, Filled, Miss, Picked, Stuck}
-use Rattle.machine.specs.declared.Found.{Found}
-use Rattle.machine.specs.declared.Found.TheVariants.{Room, Full}
-use Rattle.machine.specs.declared.Ending.{Ending}
-use Rattle.machine.specs.declared.Ending.TheVariants.{Yes, Searched, Walked}
-use Rattle.machine.specs.declared.Stage.{Stage}
-use Rattle.machine.specs.declared.Stage.TheVariants.{Idle, TakeMain, TakeFirst, SeekFirst, TakeSecond, SeekSecond, RoomFirst, RoomSecond, WriteHit, WriteRoom, Pick, DropFirst, DropSecond, DropMain, TakeNext, LookNext, PickNext, DropNext, TakeLow, TakeHigh, Swing, DropLow, DropHigh}
 use Rattle.machine.specs.declared.Lane.{Lane}
-use Rattle.machine.specs.Lane.{op_code, op_of, grab_code, grab_noted, grab_from, side_code, side_of, outcome_words, ending_words, found_words, stage_words, stage_of, numbers_of, words_at, lane_at, with_lane, decodes, idle_lane}
-
--- each code is read back as what it stands for
-pub op_back : (op : Op) → op_of (op_code op) ≡ op
-op_back NoOp = refl
-op_back Read = refl
-op_back Delete = refl
-op_back Insert = refl
-op_back Again = refl
-
-pub grab_back : (g : Grab) → grab_from (grab_code g) (grab_noted g) ≡ g
-grab_back R1 = refl
-grab_back (R2 noted) = refl
-grab_back R3 = refl
-grab_back R4 = refl
-grab_back W1 = refl
-grab_back W2 = refl
-
-pub side_back : (s : Side) → side_of (side_code s) ≡ s
-side_back First = refl
-side_back Second = refl
-
-first_back : (o : Outcome) → stage_of (outcome_words 11 o) ≡ DropFirst o
-first_back (Hit side column value) = ap (λ (s : Side). DropFirst (Hit s column value)) (side_back side)
-first_back (Wrote side) = ap (λ (s : Side). DropFirst (Wrote s)) (side_back side)
-first_back Filled = refl
-first_back Miss = refl
-first_back Picked = refl
-first_back Stuck = refl
-
-second_back : (o : Outcome) → stage_of (outcome_words 12 o) ≡ DropSecond o
-second_back (Hit side column value) = ap (λ (s : Side). DropSecond (Hit s column value)) (side_back side)
-second_back (Wrote side) = ap (λ (s : Side). DropSecond (Wrote s)) (side_back side)
-second_back Filled = refl
-second_back Miss = refl
-second_back Picked = refl
-second_back Stuck = refl
-
-main_back : (e : Ending) → stage_of (ending_words e) ≡ DropMain e
-main_back Yes = refl
-main_back (Searched places) = refl
-main_back Walked = refl
-
-next_back : (f : Found) (t : Trail) → stage_of (found_words f t) ≡ DropNext f t
-next_back (Room column) t = refl
-next_back Full t = refl
-
-pub stage_back : (s : Stage) → stage_of (stage_words s) ≡ s
-stage_back Idle = refl
-stage_back (TakeMain g) = ap TakeMain (grab_back g)
-stage_back (TakeFirst g) = ap TakeFirst (grab_back g)
-stage_back (SeekFirst column) = refl
-stage_back (TakeSecond g) = ap TakeSecond (grab_back g)
-stage_back (SeekSecond column) = refl
-stage_back (RoomFirst column) = refl
-stage_back (RoomSecond column) = refl
-stage_back (WriteHit side column) = ap (λ (s : Side). WriteHit s column) (side_back side)
-stage_back (WriteRoom side column) = ap (λ (s : Side). WriteRoom s column) (side_back side)
-stage_back Pick = refl
-stage_back (DropFirst o) = first_back o
-stage_back (DropSecond o) = second_back o
-stage_back (DropMain e) = main_back e
-stage_back (TakeNext g t) = ap (λ (h : Grab). TakeNext h t) (grab_back g)
-stage_back (LookNext column t) = refl
-stage_back (PickNext t) = refl
-stage_back (DropNext f t) = next_back f t
-stage_back (TakeLow g w) = ap (λ (h : Grab). TakeLow h w) (grab_back g)
-stage_back (TakeHigh g w) = ap (λ (h : Grab). TakeHigh h w) (grab_back g)
-stage_back (Swing w) = refl
-stage_back (DropLow w) = refl
-stage_back (DropHigh w) = refl
+use Rattle.machine.specs.Lane.{op_of, stage_of, numbers_of, words_at, lane_at, with_lane, decodes, idle_lane}
 
 -- record j of ls' has the numbers of record i of ls
 abbrev Alike : List ℕ → ℕ → List ℕ → ℕ → Type 0
@@ -132,11 +47,11 @@ Reads ls i l = (f : ℕ) → f < 14 → cell 14 ls i f ≡ get_or (numbers_of l)
 -- a lane's numbers by themselves are its record
 alone_lane : (l : Lane) → lane_at (numbers_of l) 0 ≡ l
 unfolding lane_at numbers_of cell
-alone_lane l = λ z. record { op = op_back l.op z; key = l.key; value = l.value; stage = stage_back l.stage z }
+alone_lane l = grind arith
 
 alone_reads : (l : Lane) (f : ℕ) → cell 14 (numbers_of l) 0 f ≡ get_or (numbers_of l) f 0
 unfolding cell
-alone_reads l f = ap (λ (n : ℕ). get_or (numbers_of l) n 0) (omega arith)
+alone_reads l f = grind arith
 
 reads_lane : (ls : List ℕ) (i : ℕ) (l : Lane) → Reads ls i l → lane_at ls i ≡ l
 reads_lane ls i l r = alike_lane ls (numbers_of l) i 0 (λ f h. r f h ∙ sym (alone_reads l f)) ∙ alone_lane l
@@ -155,10 +70,7 @@ all_same (suc n) p q e = rw (all_same n p q (λ i l. e i (omega arith)), e n (om
 
 alike_decodes : (ls' ls : List ℕ) (j : ℕ) → Alike ls' j ls j → decodes ls' j ≡ decodes ls j
 unfolding decodes
-alike_decodes ls' ls j r = all_same 14 (λ f. eqb (cell 14 ls' j f) (get_or (numbers_of (lane_at ls' j)) f 0)) (λ f. eqb (cell 14 ls j f) (get_or (numbers_of (lane_at ls j)) f 0)) one
-  where
-    one : (f : ℕ) → f < 14 → eqb (cell 14 ls' j f) (get_or (numbers_of (lane_at ls' j)) f 0) ≡ eqb (cell 14 ls j f) (get_or (numbers_of (lane_at ls j)) f 0)
-    one f h = rw (alike_lane ls' ls j j r, r f h)
+alike_decodes ls' ls j r = grind (arith, all_same, alike_lane)
 
 module _ (ls : List ℕ) (i : ℕ) (l : Lane) where
   stored : i * 14 + 14 ≤ length ls → Reads (with_lane ls i l) i l

@@ -15,7 +15,6 @@ use Rattle.paths.specs.Path.{other_row}
 use Rattle.machine.specs.declared.Side.{Side}
 use Rattle.machine.specs.declared.Side.TheVariants.{First, Second}
 use Rattle.machine.specs.declared.Outcome.{Outcome}
-use Rattle.machine.specs.declared.Outcome.TheVariants.{Hit, Wrote, Filled, Miss, Picked, Stuck}
 use Rattle.machine.specs.declared.Stage.{Stage}
 use Rattle.machine.specs.declared.Stage.TheVariants.{Idle, TakeMain, TakeFirst, SeekFirst, TakeSecond, SeekSecond, RoomFirst, RoomSecond, WriteHit, WriteRoom, Pick, DropFirst, DropSecond, DropMain, TakeNext, LookNext, PickNext, DropNext, TakeLow, TakeHigh, Swing, DropLow, DropHigh}
 use Rattle.machine.specs.declared.Lane.{Lane}
@@ -25,10 +24,10 @@ use Rattle.machine.specs.declared.SlotClaim.{SlotClaim}
 use Rattle.machine.specs.declared.SlotClaim.TheVariants.{NoClaim, HasKey, HasPair, HasRoom}
 use Rattle.machine.specs.Steps.{row_on, goes_to}
 use Rattle.machine.specs.Claims.{claims_at, claims_of}
-use Rattle.machine.proofs.Ways.{Leaves, leaves_hit, leaves_ended, leaves_wrote, leaves_filled, leaves_miss, leaves_picked, leaves_stuck, Swings, swings_again, swings_on, Goes, rests, main_waits, main_held, first_waits, first_held, first_read, first_hit, first_more, first_shared, first_apart, second_waits, second_held, second_read, second_hit, second_more, second_miss, second_room, room_first, room_first_more, room_first_full, room_second, room_second_more, room_pick, room_stuck, wrote_hit, wrote_room, picked_first, drops_on, drops_one, drops_two_lem, drops_main, next_waits, next_held, next_free, next_more, next_full, next_picked, next_walk, next_over, next_again, low_waits, low_shared, low_apart, high_waits, high_held, swings, drops_low, drops_both, drops_high}
+use Rattle.machine.proofs.Ways.{Leaves, leaves_hit, leaves_ended, leaves_wrote, leaves_filled, leaves_miss, leaves_picked, leaves_stuck, Swings, Goes, rests, main_waits, main_held, first_waits, first_held, first_read, first_hit, first_more, first_shared, first_apart, second_waits, second_held, second_read, second_hit, second_more, second_miss, second_room, room_first, room_first_more, room_first_full, room_second, room_second_more, room_pick, room_stuck, wrote_hit, wrote_room, picked_first, drops_on, drops_one, drops_two_lem, drops_main, next_waits, next_held, next_free, next_more, next_full, next_picked, next_walk, next_over, next_again, low_waits, low_shared, low_apart, high_waits, high_held, swings, drops_low, drops_both, drops_high}
 use borrow.Author.Count.{below_more}
-use Rattle.machine.specs.Claims.{no_claims, pass_claims, search_claims, row_claim, drop_claims, late_claims}
-use Rattle.machine.proofs.Claimed.{RowClaimed, SlotClaimed, Claimed}
+use Rattle.machine.specs.Claims.{no_claims, pass_claims, search_claims, drop_claims, late_claims}
+use Rattle.machine.proofs.Claimed.{SlotClaimed, Claimed}
 use Rattle.machine.proofs.Follows.{Follows}
 
 -- what a look saw is what stands in the slots
@@ -57,12 +56,8 @@ Looks z v l last seen (Swing w) = Unit {0}
 Looks z v l last seen (DropLow w) = Unit {0}
 Looks z v l last seen (DropHigh w) = Unit {0}
 
--- nothing claimed of a row
-no_row : (z : Sizes) (v : ℕ → Slot) (key row : ℕ) → RowClaimed z v key (row_claim row 0 0)
-no_row z v key row = record { lacks = λ i h. absurd (omega arith); fulls = λ i h. absurd (omega arith) }
-
 pub no_claims_lem : (z : Sizes) (v : ℕ → Slot) (key : ℕ) → Claimed z v key no_claims
-no_claims_lem z v key = record { one = no_row z v key 0; two = no_row z v key 0; slot = tt }
+no_claims_lem z v key = grind arith
 
 -- one column more, up to the last
 more : (P : ℕ → Type 0) (c : ℕ) → ((i : ℕ) → i < c → P i) → P c → (i : ℕ) → i < c + 1 → P i
@@ -83,23 +78,18 @@ module _ (z : Sizes) (v : ℕ → Slot) (l : Lane) (last last' : Place) (seen : 
   Fulls side n = (i : ℕ) → i < n → is_full (v (slot_index z (row_on z l.key side) i)) ≡ true
 
   pass : (a b c d : ℕ) (s : SlotClaim) → Lack First a → Lack Second b → Fulls First c → Fulls Second d → SlotClaimed z v l.key s → Claimed z v l.key (pass_claims z l a b c d s)
-  pass a b c d s la lb fc fd sc = record { one = record { lacks = la; fulls = fc }; two = record { lacks = lb; fulls = fd }; slot = sc }
+  pass a b c d s la lb fc fd sc = grind arith
 
   -- a pick or a miss, its first row released
   late : (o : Outcome) → Claimed z v l.key (drop_claims z l o) → Claimed z v l.key (late_claims z (goes_to l (DropSecond o)).lane o)
-  late (Hit side c value) h = h
-  late (Wrote side) h = h
-  late Filled h = h
-  late Miss h = pass 0 z.columns 0 0 NoClaim (λ i q. absurd (omega arith)) h.two.lacks (λ i q. absurd (omega arith)) (λ i q. absurd (omega arith)) tt
-  late Picked h = pass 0 z.columns 0 z.columns NoClaim (λ i q. absurd (omega arith)) h.two.lacks (λ i q. absurd (omega arith)) h.two.fulls tt
-  late Stuck h = pass 0 z.columns 0 z.columns NoClaim (λ i q. absurd (omega arith)) h.two.lacks (λ i q. absurd (omega arith)) h.two.fulls tt
+  late o h = grind arith
 
   -- only a slot is claimed
   slot_only : (s : SlotClaim) → SlotClaimed z v l.key s → Claimed z v l.key (pass_claims z l 0 0 0 0 s)
-  slot_only s h = pass 0 0 0 0 s (λ i q. absurd (omega arith)) (λ i q. absurd (omega arith)) (λ i q. absurd (omega arith)) (λ i q. absurd (omega arith)) h
+  slot_only s h = grind arith
 
   search : (row n : ℕ) (s : SlotClaim) → ((i : ℕ) → i < n → is_full (v (slot_index z row i)) ≡ true) → SlotClaimed z v l.key s → Claimed z v l.key (search_claims row n s)
-  search row n s fs sc = record { one = record { lacks = λ i q. absurd (omega arith); fulls = fs }; two = no_row z v l.key 0; slot = sc }
+  search row n s fs sc = grind arith
 
   leaves_none : (o : Outcome) (m : Moved) → Leaves l o m → Claimed z v m.lane.key (claims_of z m.lane last')
   unfolding claims_at
@@ -113,8 +103,7 @@ module _ (z : Sizes) (v : ℕ → Slot) (l : Lane) (last last' : Place) (seen : 
 
   swings_none : (left : ℕ) (m : Moved) → Swings l last left m → Claimed z v m.lane.key (claims_of z m.lane last')
   unfolding claims_at
-  swings_none left m (swings_again e) = no_claims_lem z v K
-  swings_none left m (swings_on e) = no_claims_lem z v K
+  swings_none left m h = grind arith
 
   pub own_claims : (solid : is_empty seen.slot ≡ false → is_full seen.slot ≡ true) (s : Stage) (m : Moved) → Looks z v l last seen s → Follows z s last last' → Claimed z v l.key (claims_at z l last s) → Goes z l last seen s m → Claimed z v m.lane.key (claims_of z m.lane last')
   unfolding claims_at

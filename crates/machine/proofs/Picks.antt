@@ -1,10 +1,9 @@
 -- The first pick is by h1 and h2, whatever their locks; a pick of the search is from the other row of the key picked before.
 -- Assumes nothing.
-use mathlib.Core.Path.{◌≡◌, ◌∙◌, ap, refl}
+use mathlib.Core.Path.{◌≡◌}
 use Prim.Native.Nat.{ℕ, ◌+◌, ◌*◌, ◌/◌, ◌%◌, ◌≤◌}
 use native.Mathlib.Omega.{arith}
 use lib.ListN.{length}
-use borrow.Author.Tests.{eq-eqb, ne_eqb}
 use Rattle.places.specs.declared.Sizes.{Sizes}
 use Rattle.places.specs.Table.{home_one, home_two}
 use Rattle.paths.specs.declared.Place.{Place}
@@ -18,15 +17,15 @@ use Rattle.machine.specs.Steps.{Memory, place_of, act_at, perform}
 module _ (z : Sizes) (l : Lane) (last : Place) (byte : ℕ) (m : Memory) (fits : 3 ≤ length m.path) where
   pub even_takes_one : byte % 2 ≡ 0 → (place_at (perform z (act_at z l last Pick) byte m).memory.path 0).row ≡ home_one z l.key
   unfolding perform act_at
-  even_takes_one e = ap (λ (p : Place). p.row) (place_same m.path 0 _ (omega arith)) ∙ rw (eq-eqb (byte % 2) 0 e) refl
+  even_takes_one e = grind (arith, place_same)
 
   pub odd_takes_two : byte % 2 ≡ 1 → (place_at (perform z (act_at z l last Pick) byte m).memory.path 0).row ≡ home_two z l.key
   unfolding perform act_at
-  odd_takes_two e = ap (λ (p : Place). p.row) (place_same m.path 0 _ (omega arith)) ∙ rw (ne_eqb (byte % 2) 0 (λ q. omega arith)) refl
+  odd_takes_two e = grind (arith, place_same)
 
   pub half_gives_column : (place_at (perform z (act_at z l last Pick) byte m).memory.path 0).column ≡ byte / 2 % z.columns
   unfolding perform act_at
-  half_gives_column = ap (λ (p : Place). p.column) (place_same m.path 0 _ (omega arith))
+  half_gives_column = grind (arith, place_same)
 
 pub next_appends : (z : Sizes) (l : Lane) (last : Place) (byte : ℕ) (m : Memory) (t : Trail) → t.places * 3 + 3 ≤ length m.path → place_at (perform z (act_at z l last (PickNext t)) byte m).memory.path t.places ≡ place_of z m (other_row z last) (byte % z.columns)
 unfolding perform act_at

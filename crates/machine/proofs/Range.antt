@@ -7,13 +7,13 @@ use Prim.Native.Nat.{◌+◌, ◌-◌, ◌<◌}
 use native.Mathlib.Omega.{arith}
 use lib.Dec.{eqb, ltb, leb}
 use borrow.Author.Tests.{eqb-true, eq-eqb, ltb-true, ltb-false, leb-true, lt-ltb, le-leb, not-true}
+use Rattle.std.specs.Prelude.{Some}
 use Rattle.lists.proofs.Below.{Each}
 use Rattle.places.specs.declared.Sizes.{Sizes}
 use Rattle.places.specs.Table.{Fits, max_key}
 use Rattle.locks.specs.declared.Mode.{Mode}
 use Rattle.locks.specs.declared.Mode.TheVariants.{Reading, Writing}
 use Rattle.locks.specs.declared.Grab.{Grab}
-use Rattle.locks.specs.declared.Tried.TheVariants.{Waits}
 use Rattle.locks.specs.Locks.{grab_of}
 use Rattle.paths.specs.declared.Place.{Place}
 use Rattle.paths.specs.Path.{other_row}
@@ -34,10 +34,10 @@ use Rattle.machine.proofs.Ops.{first_inserts, inserts_busy, busy_writes, busy_se
 -- a grab that a try leaves fits the stage that it waits at
 abbrev pub TryFits : Sizes → Lane → Seen → Stage → Type 0
 TryFits z l seen Idle = Unit {0}
-TryFits z l seen (TakeMain g) = (g' : Grab) → seen.tried ≡ Waits g' → grab_in z Writing g' ≡ true
-TryFits z l seen (TakeFirst g) = (g' : Grab) → seen.tried ≡ Waits g' → grab_in z (mode_of l.op) g' ≡ true
+TryFits z l seen (TakeMain g) = (g' : Grab) → seen.tried ≡ Some g' → grab_in z Writing g' ≡ true
+TryFits z l seen (TakeFirst g) = (g' : Grab) → seen.tried ≡ Some g' → grab_in z (mode_of l.op) g' ≡ true
 TryFits z l seen (SeekFirst c) = Unit {0}
-TryFits z l seen (TakeSecond g) = (g' : Grab) → seen.tried ≡ Waits g' → grab_in z (mode_of l.op) g' ≡ true
+TryFits z l seen (TakeSecond g) = (g' : Grab) → seen.tried ≡ Some g' → grab_in z (mode_of l.op) g' ≡ true
 TryFits z l seen (SeekSecond c) = Unit {0}
 TryFits z l seen (RoomFirst c) = Unit {0}
 TryFits z l seen (RoomSecond c) = Unit {0}
@@ -47,12 +47,12 @@ TryFits z l seen Pick = Unit {0}
 TryFits z l seen (DropFirst o) = Unit {0}
 TryFits z l seen (DropSecond o) = Unit {0}
 TryFits z l seen (DropMain e) = Unit {0}
-TryFits z l seen (TakeNext g t) = (g' : Grab) → seen.tried ≡ Waits g' → grab_in z Reading g' ≡ true
+TryFits z l seen (TakeNext g t) = (g' : Grab) → seen.tried ≡ Some g' → grab_in z Reading g' ≡ true
 TryFits z l seen (LookNext c t) = Unit {0}
 TryFits z l seen (PickNext t) = Unit {0}
 TryFits z l seen (DropNext f t) = Unit {0}
-TryFits z l seen (TakeLow g w) = (g' : Grab) → seen.tried ≡ Waits g' → grab_in z Writing g' ≡ true
-TryFits z l seen (TakeHigh g w) = (g' : Grab) → seen.tried ≡ Waits g' → grab_in z Writing g' ≡ true
+TryFits z l seen (TakeLow g w) = (g' : Grab) → seen.tried ≡ Some g' → grab_in z Writing g' ≡ true
+TryFits z l seen (TakeHigh g w) = (g' : Grab) → seen.tried ≡ Some g' → grab_in z Writing g' ≡ true
 TryFits z l seen (Swing w) = Unit {0}
 TryFits z l seen (DropLow w) = Unit {0}
 TryFits z l seen (DropHigh w) = Unit {0}
@@ -63,8 +63,7 @@ LastIn z last s = path_length s ≢ 0 → last.column < z.columns
 
 -- a fresh grab is in range
 fresh : (z : Sizes) (m : Mode) → grab_in z m (grab_of m) ≡ true
-fresh z Reading = refl
-fresh z Writing = refl
+fresh z m = grind arith
 
 -- so is an ended lane
 idle_in : (z : Sizes) (last : Place) → Each (lane_in z idle_lane last)

@@ -1,27 +1,22 @@
 -- How many places a lane has on the path after a step, which steps may change it, and that the lane then holds main.
 -- Assumes nothing.
-use mathlib.Core.Path.{◌≡◌, refl, sym}
-use mathlib.Core.Bool.{Bool, true, false, cond, false≢true}
+use mathlib.Core.Path.{◌≡◌, refl}
+use mathlib.Core.Bool.{Bool, true, false, cond}
 use Prim.Native.Nat.{ℕ, ◌+◌, ◌-◌, ◌≤◌}
 use native.Mathlib.Omega.{arith}
-use borrow.Author.Tests.{eq-eqb}
 use Rattle.lists.proofs.Below.{Each}
 use Rattle.places.specs.declared.Sizes.{Sizes}
 use Rattle.paths.specs.declared.Place.{Place}
-use Rattle.machine.specs.declared.Op.{Op}
 use Rattle.machine.specs.declared.Outcome.{Outcome}
-use Rattle.machine.specs.declared.Ending.{Ending}
-use Rattle.machine.specs.declared.Ending.TheVariants.{Yes, Searched, Walked}
 use Rattle.machine.specs.declared.Stage.{Stage}
 use Rattle.machine.specs.declared.Stage.TheVariants.{Idle, TakeMain, TakeFirst, SeekFirst, TakeSecond, SeekSecond, RoomFirst, RoomSecond, WriteHit, WriteRoom, Pick, DropFirst, DropSecond, DropMain, TakeNext, LookNext, PickNext, DropNext, TakeLow, TakeHigh, Swing, DropLow, DropHigh}
 use Rattle.machine.specs.declared.Lane.{Lane}
 use Rattle.machine.specs.declared.Seen.{Seen}
 use Rattle.machine.specs.declared.Moved.{Moved}
 use Rattle.machine.specs.Steps.{main_lock, swing_rows, path_length}
-use Rattle.machine.specs.Claims.{is_insert, stage_in, ending_in, main_part, on_lock, share, grip_at}
-use Rattle.machine.proofs.Ways.{Leaves, leaves_hit, leaves_ended, leaves_wrote, leaves_filled, leaves_miss, leaves_picked, leaves_stuck, Swings, swings_again, swings_on, Goes, rests, main_waits, main_held, first_waits, first_held, first_read, first_hit, first_more, first_shared, first_apart, second_waits, second_held, second_read, second_hit, second_more, second_miss, second_room, room_first, room_first_more, room_first_full, room_second, room_second_more, room_pick, room_stuck, wrote_hit, wrote_room, picked_first, drops_on, drops_one, drops_two_lem, drops_main, next_waits, next_held, next_free, next_more, next_full, next_picked, next_walk, next_over, next_again, low_waits, low_shared, low_apart, high_waits, high_held, swings, drops_low, drops_both, drops_high}
+use Rattle.machine.specs.Claims.{stage_in, share, grip_at}
+use Rattle.machine.proofs.Ways.{Leaves, leaves_hit, leaves_ended, leaves_wrote, leaves_filled, leaves_miss, leaves_picked, leaves_stuck, Swings, Goes, rests, main_waits, main_held, first_waits, first_held, first_read, first_hit, first_more, first_shared, first_apart, second_waits, second_held, second_read, second_hit, second_more, second_miss, second_room, room_first, room_first_more, room_first_full, room_second, room_second_more, room_pick, room_stuck, wrote_hit, wrote_room, picked_first, drops_on, drops_one, drops_two_lem, drops_main, next_waits, next_held, next_free, next_more, next_full, next_picked, next_walk, next_over, next_again, low_waits, low_shared, low_apart, high_waits, high_held, swings, drops_low, drops_both, drops_high}
 use Rattle.locks.specs.Locks.{part_writes}
-use Rattle.machine.proofs.Ops.{first_inserts, second_inserts}
 
 -- how many places are on the path after a step from this stage
 abbrev pub next_length : Sizes → Place → Stage → ℕ
@@ -60,8 +55,7 @@ module _ (z : Sizes) (l : Lane) (last : Place) (seen : Seen) where
   left_length o m leaves_stuck = refl
 
   swung_length : (left : ℕ) (m : Moved) → Swings l last left m → path_length m.lane.stage ≡ left
-  swung_length left m (swings_again e) = sym e
-  swung_length left m (swings_on e) = refl
+  swung_length left m h = grind arith
 
   pub length_goes : (s : Stage) (m : Moved) → Goes z l last seen s m → path_length m.lane.stage ≡ next_length z last s
   length_goes s m rests = refl
@@ -142,39 +136,6 @@ changes_path (DropHigh w) = true
 
 -- a lane that may change the path holds main
 module _ (z : Sizes) (l : Lane) (last : Place) where
-  on_main : (p q : ℕ) → on_lock (main_lock z) (main_lock z) 1 + p + q ≡ 1 + p + q
-  on_main p q = rw (eq-eqb (main_lock z) (main_lock z) refl) refl
-
-  main_of : (op : Op) (p q : ℕ) → is_insert op ≡ true → 1 ≤ on_lock (main_lock z) (main_lock z) (part_writes (main_part op)) + p + q
-  main_of op p q e = rw e (omega (arith, on_main p q))
-
-  ending_inserts : (e : Ending) → Each (ending_in z l.op e) → is_insert l.op ≡ true
-  ending_inserts Yes r = r.0
-  ending_inserts (Searched n) r = first_inserts l.op r.0
-  ending_inserts Walked r = second_inserts l.op r.0
-
   pub main_at : (s : Stage) → changes_path s ≡ true → Each (stage_in z l last s) → 1 ≤ share z part_writes (grip_at z l last s) (main_lock z)
   unfolding grip_at
-  main_at Idle c r = absurd (false≢true c)
-  main_at (TakeMain g) c r = absurd (false≢true c)
-  main_at (TakeFirst g) c r = absurd (false≢true c)
-  main_at (SeekFirst d) c r = absurd (false≢true c)
-  main_at (TakeSecond g) c r = absurd (false≢true c)
-  main_at (SeekSecond d) c r = absurd (false≢true c)
-  main_at (RoomFirst d) c r = absurd (false≢true c)
-  main_at (RoomSecond d) c r = absurd (false≢true c)
-  main_at (WriteHit side d) c r = absurd (false≢true c)
-  main_at (WriteRoom side d) c r = absurd (false≢true c)
-  main_at Pick c r = main_of l.op _ _ (first_inserts l.op r.0)
-  main_at (DropFirst o) c r = absurd (false≢true c)
-  main_at (DropSecond o) c r = absurd (false≢true c)
-  main_at (DropMain e) c r = main_of l.op _ _ (ending_inserts e r)
-  main_at (TakeNext g t) c r = absurd (false≢true c)
-  main_at (LookNext d t) c r = absurd (false≢true c)
-  main_at (PickNext t) c r = omega (arith, on_main 0 0)
-  main_at (DropNext h t) c r = absurd (false≢true c)
-  main_at (TakeLow g w) c r = absurd (false≢true c)
-  main_at (TakeHigh g w) c r = absurd (false≢true c)
-  main_at (Swing w) c r = absurd (false≢true c)
-  main_at (DropLow w) c r = omega (arith, on_main 0 0)
-  main_at (DropHigh w) c r = omega (arith, on_main 0 0)
+  main_at s c r = grind arith

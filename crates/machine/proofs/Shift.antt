@@ -1,10 +1,9 @@
 -- What a step does to its lane's part in the locks: one part in one lock changes, and fresh grabs count for nothing.
 -- Assumes nothing.
 use mathlib.Core.Path.{◌≡◌, refl, ap, sym, ◌∙◌}
-use mathlib.Core.Bool.{Bool, true, false, cond, not}
+use mathlib.Core.Bool.{cond, not}
 use Prim.Native.Nat.{ℕ, ◌+◌, ◌≤◌}
 use native.Mathlib.Omega.{arith}
-use lib.Dec.{eqb}
 use borrow.Author.Tests.{not-true}
 use Rattle.lists.proofs.Below.{Each}
 use Rattle.places.specs.declared.Sizes.{Sizes}
@@ -33,10 +32,10 @@ use Rattle.machine.specs.declared.Seen.{Seen}
 use Rattle.machine.specs.declared.Moved.{Moved}
 use Rattle.machine.specs.Steps.{main_lock, mode_of, row_on, shared_rows, swing_rows, sought_row, goes_to}
 use Rattle.machine.specs.Claims.{stage_in, outcome_in, ending_in, main_part, second_part, on_lock, share, grip_at, grip_of}
-use Rattle.machine.proofs.Ways.{Leaves, leaves_hit, leaves_ended, leaves_wrote, leaves_filled, leaves_miss, leaves_picked, leaves_stuck, Swings, swings_again, swings_on, Goes, rests, main_waits, main_held, first_waits, first_held, first_read, first_hit, first_more, first_shared, first_apart, second_waits, second_held, second_read, second_hit, second_more, second_miss, second_room, room_first, room_first_more, room_first_full, room_second, room_second_more, room_pick, room_stuck, wrote_hit, wrote_room, picked_first, drops_on, drops_one, drops_two_lem, drops_main, next_waits, next_held, next_free, next_more, next_full, next_picked, next_walk, next_over, next_again, low_waits, low_shared, low_apart, high_waits, high_held, swings, drops_low, drops_both, drops_high}
+use Rattle.machine.proofs.Ways.{Leaves, leaves_hit, leaves_ended, leaves_wrote, leaves_filled, leaves_miss, leaves_picked, leaves_stuck, Swings, Goes, rests, main_waits, main_held, first_waits, first_held, first_read, first_hit, first_more, first_shared, first_apart, second_waits, second_held, second_read, second_hit, second_more, second_miss, second_room, room_first, room_first_more, room_first_full, room_second, room_second_more, room_pick, room_stuck, wrote_hit, wrote_room, picked_first, drops_on, drops_one, drops_two_lem, drops_main, next_waits, next_held, next_free, next_more, next_full, next_picked, next_walk, next_over, next_again, low_waits, low_shared, low_apart, high_waits, high_held, swings, drops_low, drops_both, drops_high}
 use Rattle.locks.proofs.Grabs.{part_after}
 use Rattle.machine.proofs.Follows.{Follows}
-use Rattle.machine.proofs.Ops.{first_inserts, second_inserts, seeks_not_insert, read_not_insert, main_held_by, main_free_of}
+use Rattle.machine.proofs.Ops.{first_inserts, seeks_not_insert, read_not_insert, main_held_by, main_free_of}
 
 -- a measure of parts that fresh parts count for nothing in
 pub record Measure (f : Part → ℕ) : Type 0 where
@@ -98,18 +97,13 @@ module _ (z : Sizes) (f : Part → ℕ) (μ : Measure f) (k : ℕ) where
   at x p = on_lock k x (f p)
 
   nil : (x n : ℕ) → n ≡ 0 → on_lock k x n ≡ 0
-  nil x n e = rw e (go (eqb k x))
-    where
-      go : (b : Bool) → ◌≡◌ {A = ℕ} (cond b 0 0) 0
-      go true = refl
-      go false = refl
+  nil x n e = grind arith
 
   pub none_at : (x : ℕ) → on_lock k x (f NoPart) ≡ 0
   none_at x = nil x (f NoPart) μ.none
 
   pub fresh_at : (x : ℕ) (m : Mode) → on_lock k x (f (Tries (grab_of m))) ≡ 0
-  fresh_at x Reading = nil x (f (Tries R1)) μ.reads
-  fresh_at x Writing = nil x (f (Tries W1)) μ.writes
+  fresh_at x m = grind arith
 
   module _ (l : Lane) (last last' : Place) (seen : Seen) where
     abbrev Shifts : Stage → Moved → Type 0
@@ -129,11 +123,11 @@ module _ (z : Sizes) (f : Part → ℕ) (μ : Measure f) (k : ℕ) where
     -- a lane that goes to search, to walk or to its second pass has main and a fresh grab
     to_search : (t : Trail) → share z f (grip_of z (goes_to l (TakeNext (grab_of Reading) t)).lane last') k ≡ on_lock k (main_lock z) (f (Holds Writing))
     unfolding grip_at
-    to_search t = omega (arith, fresh_at (lock_of z (other_row z last')) Reading, none_at (lock_of z (other_row z last')))
+    to_search t = grind arith
 
     to_walk : (w : Walk) → share z f (grip_of z (goes_to l (TakeLow (grab_of Writing) w)).lane last') k ≡ on_lock k (main_lock z) (f (Holds Writing))
     unfolding grip_at
-    to_walk w = omega (arith, fresh_at (lock_of z (swing_rows z last' w).first) Writing, none_at (lock_of z (swing_rows z last' w).second))
+    to_walk w = grind arith
 
     to_main : (e : Ending) → share z f (grip_of z (goes_to l (DropMain e)).lane last') k ≡ on_lock k (main_lock z) (f (main_part l.op))
     unfolding grip_at
@@ -141,7 +135,7 @@ module _ (z : Sizes) (f : Part → ℕ) (μ : Measure f) (k : ℕ) where
 
     to_end : share z f (grip_of z (record { op = NoOp; key = 0; value = 0; stage = Idle }) last') k ≡ 0
     unfolding grip_at
-    to_end = omega (arith, none_at M, none_at (lock_of z (row_on z 0 First)), none_at (lock_of z (row_on z 0 Second)))
+    to_end = grind arith
 
     leave_shift : (o : Outcome) (m : Moved) → Each (outcome_in z l.op o) → Leaves l o m → share z f (grip_of z m.lane last') k ≡ on_lock k (main_lock z) (f (main_part l.op))
     leave_shift o m r leaves_hit = to_end ∙ sym (rw (main_free_of l.op (read_not_insert l.op r.0)) (none_at M))
@@ -154,21 +148,13 @@ module _ (z : Sizes) (f : Part → ℕ) (μ : Measure f) (k : ℕ) where
 
     swing_shift : (left : ℕ) (m : Moved) → Swings l last left m → share z f (grip_of z m.lane last') k ≡ on_lock k (main_lock z) (f (Holds Writing))
     unfolding grip_at
-    swing_shift left m (swings_again e) = omega (arith, fresh_at A Writing, none_at B)
-    swing_shift left m (swings_on e) = to_walk (record { places = left; row = last.row; column = last.column })
+    swing_shift left m h = grind (arith, none_at)
 
     ends_main : (e : Ending) → Each (ending_in z l.op e) → main_part l.op ≡ Holds Writing
-    ends_main Yes r = main_held_by l.op r.0
-    ends_main (Searched n) r = main_held_by l.op (first_inserts l.op r.0)
-    ends_main Walked r = main_held_by l.op (second_inserts l.op r.0)
-
-    -- what is released later is what the rows call for
-    flip : (b : Bool) (p q : Part) → cond (not b) p q ≡ cond b q p
-    flip true p q = refl
-    flip false p q = refl
+    ends_main e r = grind arith
 
     later : on_lock k B (f (cond (not (shared_rows z l.key)) (Holds (mode_of l.op)) NoPart)) ≡ on_lock k B (f (second_part (shared_rows z l.key) (Holds (mode_of l.op))))
-    later = ap (λ (p : Part). on_lock k B (f p)) (flip (shared_rows z l.key) (Holds (mode_of l.op)) NoPart)
+    later = grind arith
 
     pub shift : (s : Stage) (m : Moved) → Each (stage_in z l last s) → Follows z s last last' → Goes z l last seen s m → Shifts s m
     unfolding grip_at
@@ -229,26 +215,4 @@ module _ (z : Sizes) (f : Part → ℕ) (μ : Measure f) (k : ℕ) where
     -- the part that a step changes is one the lane has
     pub touched : (s : Stage) → Each (stage_in z l last s) → on_lock k (touch_at z l last seen s).lock (f (touch_at z l last seen s).before) ≤ share z f (grip_at z l last s) k
     unfolding grip_at
-    touched Idle r = omega (arith, none_at 0)
-    touched (TakeMain g) r = omega arith
-    touched (TakeFirst g) r = omega arith
-    touched (SeekFirst c) r = omega (arith, none_at 0)
-    touched (TakeSecond g) r = omega arith
-    touched (SeekSecond c) r = omega (arith, none_at 0)
-    touched (RoomFirst c) r = omega (arith, none_at 0)
-    touched (RoomSecond c) r = omega (arith, none_at 0)
-    touched (WriteHit side c) r = omega (arith, none_at 0)
-    touched (WriteRoom side c) r = omega (arith, none_at 0)
-    touched Pick r = omega (arith, none_at 0)
-    touched (DropFirst o) r = omega arith
-    touched (DropSecond o) r = omega arith
-    touched (DropMain e) r = omega (arith, ap (λ (p : Part). on_lock k M (f p)) (ends_main e r))
-    touched (TakeNext g t) r = omega arith
-    touched (LookNext c t) r = omega (arith, none_at 0)
-    touched (PickNext t) r = omega (arith, none_at 0)
-    touched (DropNext h t) r = omega arith
-    touched (TakeLow g w) r = omega arith
-    touched (TakeHigh g w) r = omega arith
-    touched (Swing w) r = omega (arith, none_at 0)
-    touched (DropLow w) r = omega arith
-    touched (DropHigh w) r = omega arith
+    touched s r = grind arith

@@ -6,13 +6,12 @@ use mathlib.Core.Bool.{Bool, true, false, cond}
 use Prim.Native.Nat.{ℕ, ◌+◌, ◌-◌}
 use lib.Dec.{eqb, ltb}
 use borrow.Author.Tests.{eqb-true, eqb-false}
+use Rattle.std.specs.Prelude.{Option, Some, None}
 use Rattle.places.specs.declared.Sizes.{Sizes}
 use Rattle.slots.specs.declared.Slot.{Slot}
 use Rattle.slots.specs.Slot.{is_empty, holds}
 use Rattle.locks.specs.declared.Mode.TheVariants.{Reading, Writing}
 use Rattle.locks.specs.declared.Grab.{Grab}
-use Rattle.locks.specs.declared.Tried.{Tried}
-use Rattle.locks.specs.declared.Tried.TheVariants.{Held, Waits}
 use Rattle.locks.specs.Locks.{grab_of}
 use Rattle.paths.specs.declared.Place.{Place}
 use Rattle.paths.specs.Path.{other_row}
@@ -24,7 +23,6 @@ use Rattle.machine.specs.declared.Trail.{Trail}
 use Rattle.machine.specs.declared.Walk.{Walk}
 use Rattle.machine.specs.declared.Outcome.{Outcome}
 use Rattle.machine.specs.declared.Outcome.TheVariants.{Hit, Wrote, Filled, Miss, Picked, Stuck}
-use Rattle.machine.specs.declared.Found.TheVariants.{Room, Full}
 use Rattle.machine.specs.declared.Ending.{Ending}
 use Rattle.machine.specs.declared.Ending.TheVariants.{Yes, Searched, Walked}
 use Rattle.machine.specs.declared.Stage.{Stage}
@@ -53,17 +51,17 @@ pub data Swings (l : Lane) (last : Place) (left : ℕ) : Moved → Type 0 where
 
 pub data Goes (z : Sizes) (l : Lane) (last : Place) (seen : Seen) : Stage → Moved → Type 0 where
   rests : Goes z l last seen Idle (goes_to l Idle)
-  main_waits : {g g' : Grab} → seen.tried ≡ Waits g' → Goes z l last seen (TakeMain g) (goes_to l (TakeMain g'))
-  main_held : {g : Grab} → seen.tried ≡ Held → Goes z l last seen (TakeMain g) (goes_to l (TakeFirst (grab_of (mode_of l.op))))
-  first_waits : {g g' : Grab} → seen.tried ≡ Waits g' → Goes z l last seen (TakeFirst g) (goes_to l (TakeFirst g'))
-  first_held : {g : Grab} → seen.tried ≡ Held → Goes z l last seen (TakeFirst g) (goes_to l (SeekFirst 0))
+  main_waits : {g g' : Grab} → seen.tried ≡ Some g' → Goes z l last seen (TakeMain g) (goes_to l (TakeMain g'))
+  main_held : {g : Grab} → seen.tried ≡ None → Goes z l last seen (TakeMain g) (goes_to l (TakeFirst (grab_of (mode_of l.op))))
+  first_waits : {g g' : Grab} → seen.tried ≡ Some g' → Goes z l last seen (TakeFirst g) (goes_to l (TakeFirst g'))
+  first_held : {g : Grab} → seen.tried ≡ None → Goes z l last seen (TakeFirst g) (goes_to l (SeekFirst 0))
   first_read : {c : ℕ} → holds seen.slot l.key ≡ true → is_read l.op ≡ true → Goes z l last seen (SeekFirst c) (goes_to l (DropFirst (Hit First c seen.slot.value)))
   first_hit : {c : ℕ} → holds seen.slot l.key ≡ true → is_read l.op ≡ false → Goes z l last seen (SeekFirst c) (goes_to l (WriteHit First c))
   first_more : {c : ℕ} → holds seen.slot l.key ≡ false → ltb (c + 1) z.columns ≡ true → Goes z l last seen (SeekFirst c) (goes_to l (SeekFirst (c + 1)))
   first_shared : {c : ℕ} → holds seen.slot l.key ≡ false → ltb (c + 1) z.columns ≡ false → shared_rows z l.key ≡ true → Goes z l last seen (SeekFirst c) (goes_to l (SeekSecond 0))
   first_apart : {c : ℕ} → holds seen.slot l.key ≡ false → ltb (c + 1) z.columns ≡ false → shared_rows z l.key ≡ false → Goes z l last seen (SeekFirst c) (goes_to l (TakeSecond (grab_of (mode_of l.op))))
-  second_waits : {g g' : Grab} → seen.tried ≡ Waits g' → Goes z l last seen (TakeSecond g) (goes_to l (TakeSecond g'))
-  second_held : {g : Grab} → seen.tried ≡ Held → Goes z l last seen (TakeSecond g) (goes_to l (SeekSecond 0))
+  second_waits : {g g' : Grab} → seen.tried ≡ Some g' → Goes z l last seen (TakeSecond g) (goes_to l (TakeSecond g'))
+  second_held : {g : Grab} → seen.tried ≡ None → Goes z l last seen (TakeSecond g) (goes_to l (SeekSecond 0))
   second_read : {c : ℕ} → holds seen.slot l.key ≡ true → is_read l.op ≡ true → Goes z l last seen (SeekSecond c) (goes_to l (DropFirst (Hit Second c seen.slot.value)))
   second_hit : {c : ℕ} → holds seen.slot l.key ≡ true → is_read l.op ≡ false → Goes z l last seen (SeekSecond c) (goes_to l (WriteHit Second c))
   second_more : {c : ℕ} → holds seen.slot l.key ≡ false → ltb (c + 1) z.columns ≡ true → Goes z l last seen (SeekSecond c) (goes_to l (SeekSecond (c + 1)))
@@ -83,20 +81,20 @@ pub data Goes (z : Sizes) (l : Lane) (last : Place) (seen : Seen) : Stage → Mo
   drops_one : {o : Outcome} {m : Moved} → drops_two (shared_rows z l.key) o ≡ false → Leaves l o m → Goes z l last seen (DropFirst o) m
   drops_two_lem : {o : Outcome} {m : Moved} → Leaves l o m → Goes z l last seen (DropSecond o) m
   drops_main : {e : Ending} → Goes z l last seen (DropMain e) (ends (insert_end e))
-  next_waits : {g g' : Grab} {t : Trail} → seen.tried ≡ Waits g' → Goes z l last seen (TakeNext g t) (goes_to l (TakeNext g' t))
-  next_held : {g : Grab} {t : Trail} → seen.tried ≡ Held → Goes z l last seen (TakeNext g t) (goes_to l (LookNext 0 t))
-  next_free : {c : ℕ} {t : Trail} → is_empty seen.slot ≡ true → Goes z l last seen (LookNext c t) (goes_to l (DropNext (Room c) t))
+  next_waits : {g g' : Grab} {t : Trail} → seen.tried ≡ Some g' → Goes z l last seen (TakeNext g t) (goes_to l (TakeNext g' t))
+  next_held : {g : Grab} {t : Trail} → seen.tried ≡ None → Goes z l last seen (TakeNext g t) (goes_to l (LookNext 0 t))
+  next_free : {c : ℕ} {t : Trail} → is_empty seen.slot ≡ true → Goes z l last seen (LookNext c t) (goes_to l (DropNext (Some c) t))
   next_more : {c : ℕ} {t : Trail} → is_empty seen.slot ≡ false → ltb (c + 1) z.columns ≡ true → Goes z l last seen (LookNext c t) (goes_to l (LookNext (c + 1) t))
   next_full : {c : ℕ} {t : Trail} → is_empty seen.slot ≡ false → ltb (c + 1) z.columns ≡ false → Goes z l last seen (LookNext c t) (goes_to l (PickNext t))
-  next_picked : {t : Trail} → Goes z l last seen (PickNext t) (goes_to l (DropNext Full (record { picks = t.picks + 1; places = t.places + 1 })))
-  next_walk : {c : ℕ} {t : Trail} → Goes z l last seen (DropNext (Room c) t) (goes_to l (TakeLow (grab_of Writing) (record { places = t.places; row = other_row z last; column = c })))
-  next_over : {t : Trail} → ltb z.rows t.picks ≡ true → Goes z l last seen (DropNext Full t) (goes_to l (DropMain (Searched t.places)))
-  next_again : {t : Trail} → ltb z.rows t.picks ≡ false → Goes z l last seen (DropNext Full t) (goes_to l (TakeNext (grab_of Reading) t))
-  low_waits : {g g' : Grab} {w : Walk} → seen.tried ≡ Waits g' → Goes z l last seen (TakeLow g w) (goes_to l (TakeLow g' w))
-  low_shared : {g : Grab} {w : Walk} → seen.tried ≡ Held → (swing_rows z last w).shared ≡ true → Goes z l last seen (TakeLow g w) (goes_to l (Swing w))
-  low_apart : {g : Grab} {w : Walk} → seen.tried ≡ Held → (swing_rows z last w).shared ≡ false → Goes z l last seen (TakeLow g w) (goes_to l (TakeHigh (grab_of Writing) w))
-  high_waits : {g g' : Grab} {w : Walk} → seen.tried ≡ Waits g' → Goes z l last seen (TakeHigh g w) (goes_to l (TakeHigh g' w))
-  high_held : {g : Grab} {w : Walk} → seen.tried ≡ Held → Goes z l last seen (TakeHigh g w) (goes_to l (Swing w))
+  next_picked : {t : Trail} → Goes z l last seen (PickNext t) (goes_to l (DropNext None (record { picks = t.picks + 1; places = t.places + 1 })))
+  next_walk : {c : ℕ} {t : Trail} → Goes z l last seen (DropNext (Some c) t) (goes_to l (TakeLow (grab_of Writing) (record { places = t.places; row = other_row z last; column = c })))
+  next_over : {t : Trail} → ltb z.rows t.picks ≡ true → Goes z l last seen (DropNext None t) (goes_to l (DropMain (Searched t.places)))
+  next_again : {t : Trail} → ltb z.rows t.picks ≡ false → Goes z l last seen (DropNext None t) (goes_to l (TakeNext (grab_of Reading) t))
+  low_waits : {g g' : Grab} {w : Walk} → seen.tried ≡ Some g' → Goes z l last seen (TakeLow g w) (goes_to l (TakeLow g' w))
+  low_shared : {g : Grab} {w : Walk} → seen.tried ≡ None → (swing_rows z last w).shared ≡ true → Goes z l last seen (TakeLow g w) (goes_to l (Swing w))
+  low_apart : {g : Grab} {w : Walk} → seen.tried ≡ None → (swing_rows z last w).shared ≡ false → Goes z l last seen (TakeLow g w) (goes_to l (TakeHigh (grab_of Writing) w))
+  high_waits : {g g' : Grab} {w : Walk} → seen.tried ≡ Some g' → Goes z l last seen (TakeHigh g w) (goes_to l (TakeHigh g' w))
+  high_held : {g : Grab} {w : Walk} → seen.tried ≡ None → Goes z l last seen (TakeHigh g w) (goes_to l (Swing w))
   swings : {w : Walk} → Goes z l last seen (Swing w) (goes_to l (DropLow w))
   drops_low : {w : Walk} → (swing_rows z last w).shared ≡ false → Goes z l last seen (DropLow w) (goes_to l (DropHigh w))
   drops_both : {w : Walk} {m : Moved} → (swing_rows z last w).shared ≡ true → Swings l last (w.places - 1) m → Goes z l last seen (DropLow w) m
@@ -134,9 +132,9 @@ module _ (z : Sizes) (l : Lane) (last : Place) (seen : Seen) where
   to_test s p q true f g = f refl
   to_test s p q false f g = g refl
 
-  by_try : (s : Stage) (stay : Grab → Stage) (next : Stage) (t : Tried) → ((g : Grab) → t ≡ Waits g → Goes z l last seen s (goes_to l (stay g))) → (t ≡ Held → Goes z l last seen s (goes_to l next)) → Goes z l last seen s (goes_to l (on_try t stay next))
-  by_try s stay next Held f g = g refl
-  by_try s stay next (Waits h) f g = f h refl
+  by_try : (s : Stage) (stay : Grab → Stage) (next : Stage) (t : Option Grab) → ((g : Grab) → t ≡ Some g → Goes z l last seen s (goes_to l (stay g))) → (t ≡ None → Goes z l last seen s (goes_to l next)) → Goes z l last seen s (goes_to l (on_try t stay next))
+  by_try s stay next None f g = g refl
+  by_try s stay next (Some h) f g = f h refl
 
   on_hit_lem : (s : Stage) (side : Side) (c : ℕ) (x : Slot) → (is_read l.op ≡ true → Goes z l last seen s (goes_to l (DropFirst (Hit side c x.value)))) → (is_read l.op ≡ false → Goes z l last seen s (goes_to l (WriteHit side c))) → Goes z l last seen s (on_hit l l.op side c x)
   on_hit_lem s side c x f g = go l.op refl
@@ -199,11 +197,11 @@ module _ (z : Sizes) (l : Lane) (last : Place) (seen : Seen) where
   goes (DropMain e) = drops_main
   goes (TakeNext g t) = by_try (TakeNext g t) (λ h. TakeNext h t) (LookNext 0 t) seen.tried (λ h e. next_waits e) (λ e. next_held e)
   goes (LookNext c t) =
-      to_test (LookNext c t) (DropNext (Room c) t) (next_column z c (λ d. LookNext d t) (PickNext t)) (is_empty seen.slot) (λ h. next_free h)
+      to_test (LookNext c t) (DropNext (Some c) t) (next_column z c (λ d. LookNext d t) (PickNext t)) (is_empty seen.slot) (λ h. next_free h)
       (λ h. to_test (LookNext c t) (LookNext (c + 1) t) (PickNext t) (ltb (c + 1) z.columns) (λ n. next_more h n) (λ n. next_full h n))
   goes (PickNext t) = next_picked
-  goes (DropNext (Room c) t) = next_walk
-  goes (DropNext Full t) = to_test (DropNext Full t) (DropMain (Searched t.places)) (TakeNext (grab_of Reading) t) (ltb z.rows t.picks) (λ e. next_over e) (λ e. next_again e)
+  goes (DropNext (Some c) t) = next_walk
+  goes (DropNext None t) = to_test (DropNext None t) (DropMain (Searched t.places)) (TakeNext (grab_of Reading) t) (ltb z.rows t.picks) (λ e. next_over e) (λ e. next_again e)
   goes (TakeLow g w) =
       by_try (TakeLow g w) (λ h. TakeLow h w) (cond (swing_rows z last w).shared (Swing w) (TakeHigh (grab_of Writing) w)) seen.tried (λ h e. low_waits e)
       (λ e. to_test (TakeLow g w) (Swing w) (TakeHigh (grab_of Writing) w) (swing_rows z last w).shared (λ s. low_shared e s) (λ s. low_apart e s))

@@ -1,6 +1,6 @@
 -- 01, "Standing check": of a lane by itself, the range of its numbers, its part in the locks, and what it claims of the slots.
 -- Assumes nothing.
-use Rattle.std.specs.Prelude.{ℕ, ◌+◌, List, [], ◌∷◌, Bool, true, false, cond, not, ◌||◌, eqb, ltb, leb}
+use Rattle.std.specs.Prelude.{ℕ, ◌+◌, List, [], ◌∷◌, Bool, true, false, cond, not, ◌||◌, eqb, ltb, leb, Option, Some, None}
 use Rattle.places.specs.declared.Sizes.{Sizes}
 use Rattle.places.specs.Table.{max_key, lock_of}
 use Rattle.locks.specs.declared.Mode.{Mode}
@@ -18,8 +18,6 @@ use Rattle.machine.specs.declared.Trail.{Trail}
 use Rattle.machine.specs.declared.Walk.{Walk}
 use Rattle.machine.specs.declared.Outcome.{Outcome}
 use Rattle.machine.specs.declared.Outcome.TheVariants.{Hit, Wrote, Filled, Miss, Picked, Stuck}
-use Rattle.machine.specs.declared.Found.{Found}
-use Rattle.machine.specs.declared.Found.TheVariants.{Room, Full}
 use Rattle.machine.specs.declared.Ending.{Ending}
 use Rattle.machine.specs.declared.Ending.TheVariants.{Yes, Searched, Walked}
 use Rattle.machine.specs.declared.Stage.{Stage}
@@ -98,9 +96,9 @@ abbrev pub trail_in : Sizes → Trail → List Bool
 trail_in z t = leb t.picks z.rows ∷ eqb t.places (t.picks + 1) ∷ []
 
 -- what an attempt may have found; "After attempt H+1 finds a full row" one pick more is made
-abbrev pub found_in : Sizes → Found → Trail → List Bool
-found_in z (Room column) t = ltb column z.columns ∷ trail_in z t
-found_in z Full t = leb 1 t.picks ∷ leb t.picks (z.rows + 1) ∷ eqb t.places (t.picks + 1) ∷ []
+abbrev pub found_in : Sizes → Option ℕ → Trail → List Bool
+found_in z (Some column) t = ltb column z.columns ∷ trail_in z t
+found_in z None t = leb 1 t.picks ∷ leb t.picks (z.rows + 1) ∷ eqb t.places (t.picks + 1) ∷ []
 
 -- "a search that succeeds has at most H+1" places; "the free place in that key's other row"
 abbrev pub walk_in : Sizes → Place → Walk → List Bool
@@ -252,9 +250,9 @@ room_claims z l First column = pass_claims z l z.columns z.columns column 0 (Has
 room_claims z l Second column = pass_claims z l z.columns z.columns z.columns column (HasRoom (row_on z l.key Second) column)
 
 -- of an attempt: its free column is empty, or its row is full
-abbrev pub found_claims : Sizes → Place → Found → Claims
-found_claims z last (Room column) = search_claims (other_row z last) column (HasRoom (other_row z last) column)
-found_claims z last Full = search_claims last.row z.columns NoClaim
+abbrev pub found_claims : Sizes → Place → Option ℕ → Claims
+found_claims z last (Some column) = search_claims (other_row z last) column (HasRoom (other_row z last) column)
+found_claims z last None = search_claims last.row z.columns NoClaim
 
 -- what each stage claims
 unfoldable pub claims_at : Sizes → Lane → Place → Stage → Claims

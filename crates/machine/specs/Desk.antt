@@ -1,10 +1,10 @@
 -- 01, "Numbers the desk answers with": opening, start and step, their refusals and their order.
 -- Assumes nothing.
-use Rattle.std.specs.Prelude.{ℕ, ◌+◌, ◌*◌, [], ◌∷◌, Bool, cond, not, eqb, ltb, length}
+use Rattle.std.specs.Prelude.{ℕ, ◌+◌, ◌*◌, [], ◌∷◌, Bool, cond, not, eqb, ltb, length, ⊤, Result, Ok, Err}
 use Rattle.lists.specs.Below.{all_of}
 use Rattle.places.specs.declared.Sizes.{Sizes}
 use Rattle.places.specs.Table.{sizes_ok, max_key, slot_count}
-use Rattle.slots.specs.Sound.{Finding, finding, opening_fault}
+use Rattle.slots.specs.Sound.{Finding, finding, fault_finding, opening_fault}
 use Rattle.locks.specs.declared.Mode.TheVariants.{Reading, Writing}
 use Rattle.locks.specs.Locks.{grab_of}
 use Rattle.paths.specs.Path.{path_places, emptied}
@@ -16,12 +16,8 @@ use Rattle.machine.specs.declared.Answer.TheVariants.{GoesOn, ReadNone, ReadValu
 use Rattle.machine.specs.Lane.{lane_numbers, lane_at, with_lane}
 use Rattle.machine.specs.Steps.{Memory, LaneStep, step_lane}
 use Rattle.machine.specs.Claims.{is_idle_op}
-use Rattle.machine.specs.declared.Opened.{Opened}
-use Rattle.machine.specs.declared.Opened.TheVariants.{OpenAccepted, OpenBadSizes, OpenBadLengths, OpenMisshapen, OpenAstray, OpenTwice}
-use Rattle.machine.specs.declared.Started.{Started}
-use Rattle.machine.specs.declared.Started.TheVariants.{StartAccepted, StartBadSizes, StartBadLengths, StartNotStanding, StartNoLane, StartBusy, StartBadKey}
-use Rattle.machine.specs.declared.Stepped.{Stepped}
-use Rattle.machine.specs.declared.Stepped.TheVariants.{StepDone, StepBadSizes, StepBadLengths, StepNotStanding, StepNoLane, StepIdle}
+use Rattle.machine.specs.declared.Refusal.{Refusal}
+use Rattle.machine.specs.declared.Refusal.TheVariants.{BadSizes, BadLengths, Unsound, NoLane, Busy, Idle, NotStanding, BadKey}
 use Rattle.machine.specs.declared.Request.{Request}
 use Rattle.machine.specs.declared.Request.TheVariants.{AskRead, AskDelete, AskInsert}
 use Rattle.machine.specs.Standing.{Table, standing}
@@ -36,6 +32,25 @@ lengths_ok z t =
     ∷ eqb (length t.path) (path_places z * 3)
     ∷ [])
 
+-- ---- refusals
+
+-- the number of each refusal in 01's table, with the slot index
+abbrev pub refusal_finding : Refusal → Finding
+refusal_finding BadSizes = finding 1 0
+refusal_finding BadLengths = finding 2 0
+refusal_finding (Unsound fault) = fault_finding fault
+refusal_finding NoLane = finding 6 0
+refusal_finding Busy = finding 7 0
+refusal_finding Idle = finding 8 0
+refusal_finding NotStanding = finding 9 0
+refusal_finding BadKey = finding 10 0
+
+abbrev pub refusal_number : Refusal → ℕ
+refusal_number r = (refusal_finding r).number
+
+abbrev pub refusal_index : Refusal → ℕ
+refusal_index r = (refusal_finding r).index
+
 -- ---- opening
 
 -- "An accepted opening clears locks, lanes and path and leaves the slots alone."
@@ -43,13 +58,9 @@ unfoldable pub opened : Table → Table
 opened t = record { slots = t.slots; locks = emptied t.locks; lanes = emptied t.lanes; path = emptied t.path }
 
 -- the numbers of 01's table for opening, with the slot index
-abbrev pub opened_number : Opened → Finding
-opened_number OpenAccepted = finding 0 0
-opened_number OpenBadSizes = finding 1 0
-opened_number OpenBadLengths = finding 2 0
-opened_number (OpenMisshapen i) = finding 3 i
-opened_number (OpenAstray i) = finding 4 i
-opened_number (OpenTwice i) = finding 5 i
+abbrev pub opened_number : Result ⊤ Refusal → Finding
+opened_number (Ok u) = finding 0 0
+opened_number (Err r) = refusal_finding r
 
 -- "Order: 1, 2; then at opening the lowest slot index that breaks a rule, and there 3, 4, 5"
 unfoldable pub opening_number : Sizes → Table → Finding
@@ -74,24 +85,19 @@ begun (AskDelete key) = record { op = Delete; key = key; value = 0; stage = Take
 begun (AskInsert key value) = record { op = Insert; key = key; value = value; stage = TakeMain (grab_of Writing) }
 
 -- "For start: 1, 2, 9, 6, 7, 10."
-unfoldable pub start_answer : Sizes → Table → ℕ → Request → Started
+unfoldable pub start_answer : Sizes → Table → ℕ → Request → Result ⊤ Refusal
 start_answer z t j r =
-    cond (not (sizes_ok z)) StartBadSizes
-    (cond (not (lengths_ok z t)) StartBadLengths
-    (cond (not (standing z t)) StartNotStanding
-    (cond (not (ltb j z.lanes)) StartNoLane
-    (cond (not (is_idle_op (lane_at t.lanes j).op)) StartBusy
-    (cond (ltb max_key (key_of r)) StartBadKey StartAccepted)))))
+    cond (not (sizes_ok z)) (Err BadSizes)
+    (cond (not (lengths_ok z t)) (Err BadLengths)
+    (cond (not (standing z t)) (Err NotStanding)
+    (cond (not (ltb j z.lanes)) (Err NoLane)
+    (cond (not (is_idle_op (lane_at t.lanes j).op)) (Err Busy)
+    (cond (ltb max_key (key_of r)) (Err BadKey) (Ok tt))))))
 
 -- the numbers of 01's table for a start
-abbrev pub start_number : Started → ℕ
-start_number StartAccepted = 0
-start_number StartBadSizes = 1
-start_number StartBadLengths = 2
-start_number StartNotStanding = 9
-start_number StartNoLane = 6
-start_number StartBusy = 7
-start_number StartBadKey = 10
+abbrev pub start_number : Result ⊤ Refusal → ℕ
+start_number (Ok u) = 0
+start_number (Err r) = refusal_number r
 
 -- the start itself: the lane's record, and nothing else
 unfoldable pub started : Table → ℕ → Request → Table
@@ -122,14 +128,14 @@ turned z t j byte =
     }
 
 -- "For step: 1, 2, 9, 6, 8."
-unfoldable pub step_answer : Sizes → Table → ℕ → ℕ → Stepped
+unfoldable pub step_answer : Sizes → Table → ℕ → ℕ → Result Answer Refusal
 step_answer z t j byte =
-    cond (not (sizes_ok z)) StepBadSizes
-    (cond (not (lengths_ok z t)) StepBadLengths
-    (cond (not (standing z t)) StepNotStanding
-    (cond (not (ltb j z.lanes)) StepNoLane
-    (cond (is_idle_op (lane_at t.lanes j).op) StepIdle
-    (StepDone (turned z t j byte).answer)))))
+    cond (not (sizes_ok z)) (Err BadSizes)
+    (cond (not (lengths_ok z t)) (Err BadLengths)
+    (cond (not (standing z t)) (Err NotStanding)
+    (cond (not (ltb j z.lanes)) (Err NoLane)
+    (cond (is_idle_op (lane_at t.lanes j).op) (Err Idle)
+    (Ok (turned z t j byte).answer)))))
 
 -- number, end and value of each answer of a step: 0 goes on, 1 read none, 2 read, 3 delete, 4 insert yes, 5 searched, 6 walked
 pub record StepNumbers : Type 0 where
@@ -156,13 +162,9 @@ answer_numbers InsertSearched = step_end 5 0
 answer_numbers InsertWalked = step_end 6 0
 
 -- the numbers of 01's table for a step
-abbrev pub step_numbers : Stepped → StepNumbers
-step_numbers (StepDone a) = answer_numbers a
-step_numbers StepBadSizes = step_refusal 1
-step_numbers StepBadLengths = step_refusal 2
-step_numbers StepNotStanding = step_refusal 9
-step_numbers StepNoLane = step_refusal 6
-step_numbers StepIdle = step_refusal 8
+abbrev pub step_numbers : Result Answer Refusal → StepNumbers
+step_numbers (Ok a) = answer_numbers a
+step_numbers (Err r) = step_refusal (refusal_number r)
 
 -- "A refusal changes no lent number."
 unfoldable pub after_step : Sizes → Table → ℕ → ℕ → Table

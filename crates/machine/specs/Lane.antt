@@ -1,6 +1,6 @@
 -- 01, "What the table holds": the lane record. A lane as lent is 14 numbers; docs/LANES.md has their table.
 -- Assumes nothing.
-use Rattle.std.specs.Prelude.{ℕ, List, [], ◌∷◌, Bool, eqb, get_or}
+use Rattle.std.specs.Prelude.{ℕ, List, [], ◌∷◌, Bool, eqb, get_or, Option, Some, None}
 use Rattle.lists.specs.Below.{all_below}
 use Rattle.lists.specs.Records.{cell, put}
 use Rattle.locks.specs.declared.Grab.{Grab}
@@ -13,8 +13,6 @@ use Rattle.machine.specs.declared.Trail.{Trail}
 use Rattle.machine.specs.declared.Walk.{Walk}
 use Rattle.machine.specs.declared.Outcome.{Outcome}
 use Rattle.machine.specs.declared.Outcome.TheVariants.{Hit, Wrote, Filled, Miss, Picked, Stuck}
-use Rattle.machine.specs.declared.Found.{Found}
-use Rattle.machine.specs.declared.Found.TheVariants.{Room, Full}
 use Rattle.machine.specs.declared.Ending.{Ending}
 use Rattle.machine.specs.declared.Ending.TheVariants.{Yes, Searched, Walked}
 use Rattle.machine.specs.declared.Stage.{Stage}
@@ -93,9 +91,9 @@ ending_words (Searched places) = words 13 0 0 0 0 2 0 places 0 0
 ending_words Walked = words 13 0 0 0 0 3 0 0 0 0
 
 -- the numbers of the search's release
-abbrev pub found_words : Found → Trail → Words
-found_words (Room column) t = words 17 0 0 0 column 1 t.picks t.places 0 0
-found_words Full t = words 17 0 0 0 0 2 t.picks t.places 0 0
+abbrev pub found_words : Option ℕ → Trail → Words
+found_words (Some column) t = words 17 0 0 0 column 1 t.picks t.places 0 0
+found_words None t = words 17 0 0 0 0 2 t.picks t.places 0 0
 
 -- the numbers of a stage of the walk
 abbrev pub walk_words : ℕ → ℕ → ℕ → Walk → Words
@@ -165,8 +163,8 @@ abbrev pub ending_of : Words → Ending
 ending_of w = get_or (Yes ∷ Yes ∷ Searched w.places ∷ Walked ∷ []) w.ending Yes
 
 -- what it found, read back
-abbrev pub found_of : Words → Found
-found_of w = get_or (Full ∷ Room w.column ∷ Full ∷ []) w.ending Full
+abbrev pub found_of : Words → Option ℕ
+found_of w = get_or (None ∷ Some w.column ∷ None ∷ []) w.ending None
 
 -- a search read back
 abbrev pub trail_of : Words → Trail

@@ -1,6 +1,6 @@
 -- 01, "Steps": what the next step of a lane does to the lent memory, and where the lane goes.
 -- Assumes nothing.
-use Rattle.std.specs.Prelude.{ℕ, ◌+◌, ◌-◌, ◌/◌, ◌%◌, List, Bool, false, cond, not, ◌&&◌, eqb, ltb}
+use Rattle.std.specs.Prelude.{ℕ, ◌+◌, ◌-◌, ◌/◌, ◌%◌, List, Bool, false, cond, not, ◌&&◌, eqb, ltb, Option, Some, None}
 use Rattle.places.specs.declared.Sizes.{Sizes}
 use Rattle.places.specs.declared.RowPair.{RowPair}
 use Rattle.places.specs.Table.{home_one, home_two, lock_of, slot_index}
@@ -10,8 +10,6 @@ use Rattle.slots.specs.Slot.{slot_at, with_slot, is_empty, holds, empty_slot, fu
 use Rattle.locks.specs.declared.Mode.{Mode}
 use Rattle.locks.specs.declared.Mode.TheVariants.{Reading, Writing}
 use Rattle.locks.specs.declared.Grab.{Grab}
-use Rattle.locks.specs.declared.Tried.{Tried}
-use Rattle.locks.specs.declared.Tried.TheVariants.{Held, Waits}
 use Rattle.locks.specs.Locks.{lock_at, with_lock, grab_of, try_lock, released}
 use Rattle.paths.specs.declared.Place.{Place}
 use Rattle.paths.specs.Path.{with_place, no_place, emptied, last_of, other_row}
@@ -23,8 +21,6 @@ use Rattle.machine.specs.declared.Trail.{Trail}
 use Rattle.machine.specs.declared.Walk.{Walk}
 use Rattle.machine.specs.declared.Outcome.{Outcome}
 use Rattle.machine.specs.declared.Outcome.TheVariants.{Hit, Wrote, Filled, Miss, Picked, Stuck}
-use Rattle.machine.specs.declared.Found.{Found}
-use Rattle.machine.specs.declared.Found.TheVariants.{Room, Full}
 use Rattle.machine.specs.declared.Ending.{Ending}
 use Rattle.machine.specs.declared.Ending.TheVariants.{Yes, Searched, Walked}
 use Rattle.machine.specs.declared.Stage.{Stage}
@@ -130,9 +126,9 @@ written Insert key value = full_slot key value
 written Again key value = full_slot key value
 
 -- "From the last place, read-lock the key's other row": the row an attempt looked through; once it was picked from, the last place's
-abbrev pub sought_row : Sizes → Place → Found → ℕ
-sought_row z last (Room column) = other_row z last
-sought_row z last Full = last.row
+abbrev pub sought_row : Sizes → Place → Option ℕ → ℕ
+sought_row z last (Some column) = other_row z last
+sought_row z last None = last.row
 
 -- "Steps": the item at which a lane stands; last is the last place on its path
 unfoldable pub act_at : Sizes → Lane → Place → Stage → Act
@@ -177,7 +173,7 @@ pub record Performed : Type 0 where
 
 -- an act that takes no lock and looks at no slot
 abbrev pub saw_nothing : Seen
-saw_nothing = record { tried = Held; slot = empty_slot }
+saw_nothing = record { tried = None; slot = empty_slot }
 
 -- a memory with other slots, with other locks, with another path
 abbrev pub with_slots : Memory → List ℕ → Memory
@@ -223,7 +219,7 @@ perform z (Release k mode tail) byte m =
       memory = record { slots = m.slots; locks = with_lock m.locks k (released mode (lock_at m.locks k)); path = tailed tail m.path };
       seen = saw_nothing;
     }
-perform z (Look row column) byte m = record { memory = m; seen = record { tried = Held; slot = slot_in z m row column } }
+perform z (Look row column) byte m = record { memory = m; seen = record { tried = None; slot = slot_in z m row column } }
 perform z (Store row column s) byte m = record { memory = with_slots m (with_slot m.slots (slot_index z row column) s); seen = saw_nothing }
 perform z (PickOne one two) byte m =
     -- "byte r even takes h1, odd h2; column (r >> 1) mod W"
@@ -244,9 +240,9 @@ abbrev pub ends : Answer → Moved
 ends a = record { lane = idle_lane; answer = a }
 
 -- "the lock is held, else": on to the next stage once it is held, else the grab goes on
-abbrev pub on_try : Tried → (Grab → Stage) → Stage → Stage
-on_try Held stay next = next
-on_try (Waits g) stay next = stay g
+abbrev pub on_try : Option Grab → (Grab → Stage) → Stage → Stage
+on_try None stay next = next
+on_try (Some g) stay next = stay g
 
 -- "look at one slot a step": the next column, or, past the last, the next stage
 abbrev pub next_column : Sizes → ℕ → (ℕ → Stage) → Stage → Stage
@@ -312,9 +308,9 @@ insert_end (Searched places) = InsertSearched
 insert_end Walked = InsertWalked
 
 -- "the first empty column is free space: release, walk"; "At most H+1 attempts"; "After attempt H+1 finds a full row: release main"
-abbrev pub after_attempt : Sizes → Place → Found → Trail → Stage
-after_attempt z last (Room column) t = TakeLow (grab_of Writing) (record { places = t.places; row = other_row z last; column = column })
-after_attempt z last Full t = cond (ltb z.rows t.picks) (DropMain (Searched t.places)) (TakeNext (grab_of Reading) t)
+abbrev pub after_attempt : Sizes → Place → Option ℕ → Trail → Stage
+after_attempt z last (Some column) t = TakeLow (grab_of Writing) (record { places = t.places; row = other_row z last; column = column })
+after_attempt z last None t = cond (ltb z.rows t.picks) (DropMain (Searched t.places)) (TakeNext (grab_of Reading) t)
 
 -- "With the last of these releases the free slot becomes the place just left, skip or not, and that place leaves the path";
 -- once the path is empty the second pass begins, "main being held already"
@@ -345,8 +341,8 @@ advance_at z l last seen (DropSecond o) = leave l o
 advance_at z l last seen (DropMain e) = ends (insert_end e)
 advance_at z l last seen (TakeNext g t) = goes_to l (on_try seen.tried (λ h. TakeNext h t) (LookNext 0 t))
 advance_at z l last seen (LookNext column t) =
-    goes_to l (cond (is_empty seen.slot) (DropNext (Room column) t) (next_column z column (λ c. LookNext c t) (PickNext t)))
-advance_at z l last seen (PickNext t) = goes_to l (DropNext Full (record { picks = t.picks + 1; places = t.places + 1 }))
+    goes_to l (cond (is_empty seen.slot) (DropNext (Some column) t) (next_column z column (λ c. LookNext c t) (PickNext t)))
+advance_at z l last seen (PickNext t) = goes_to l (DropNext None (record { picks = t.picks + 1; places = t.places + 1 }))
 advance_at z l last seen (DropNext f t) = goes_to l (after_attempt z last f t)
 advance_at z l last seen (TakeLow g w) =
     goes_to l (on_try seen.tried (λ h. TakeLow h w) (cond (swing_rows z last w).shared (Swing w) (TakeHigh (grab_of Writing) w)))

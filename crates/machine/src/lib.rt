@@ -1,13 +1,15 @@
 // The machine as 01 says it: a lane and its numbers, its steps, the standing check, and what the desk answers. Definitions and laws,
-// no code. Uses `lists`, `places`, `slots`, `locks` and `paths`.
+// no code but a refusal's numbers. Uses `lists`, `places`, `slots`, `locks` and `paths`.
 #![tactic(auto)]
 
-use locks::{Grab, Mode, Part, Tried};
+mod refusals;
+
+use locks::{Grab, Mode, Part};
 use paths::Place;
-use slots::Slot;
+use slots::{Fault, Slot};
 
 // What a lane is doing. Again is an insert in its second pass.
-#[derive(Clone, Copy)]
+#[derive(Clone, Copy, PartialEq, Eq)]
 pub enum Op {
     NoOp,
     Read,
@@ -17,7 +19,7 @@ pub enum Op {
 }
 
 // Which of the two home rows, in locking order.
-#[derive(Clone, Copy)]
+#[derive(Clone, Copy, PartialEq, Eq)]
 pub enum Side {
     First,
     Second,
@@ -49,13 +51,6 @@ pub enum Outcome {
     Stuck,
 }
 
-// What an attempt of the search came to: a free column, or a full row.
-#[derive(Clone, Copy)]
-pub enum Found {
-    Room(u32),
-    Full,
-}
-
 // How an insert ends.
 #[derive(Clone, Copy)]
 pub enum Ending {
@@ -64,7 +59,7 @@ pub enum Ending {
     Walked,
 }
 
-// Where a lane stands: its next step is the item named.
+// Where a lane stands: its next step is the item named. DropNext has what the attempt came to: a free column, or none in a full row.
 #[derive(Clone, Copy)]
 pub enum Stage {
     Idle,
@@ -84,7 +79,7 @@ pub enum Stage {
     TakeNext(Grab, Trail),
     LookNext(u32, Trail),
     PickNext(Trail),
-    DropNext(Found, Trail),
+    DropNext(Option<u32>, Trail),
     TakeLow(Grab, Walk),
     TakeHigh(Grab, Walk),
     Swing(Walk),
@@ -121,10 +116,10 @@ pub enum Act {
     Move(Place, u32, u32),
 }
 
-// What the act found: how taking a lock went, and the slot looked at. Held and zeros where the act does neither.
-#[derive(Clone, Copy)]
+// What the act found: the grab at which a lane that takes a lock goes on, and the slot looked at. None and zeros where the act does neither.
+#[derive(Clone, Copy, Default)]
 pub struct Seen {
-    pub tried: Tried,
+    pub tried: Option<Grab>,
     pub slot: Slot,
 }
 
@@ -148,7 +143,7 @@ pub struct Moved {
 }
 
 // What a lane claims of one row: its first columns that lack the lane's key, and its first columns that are full.
-#[derive(Clone, Copy)]
+#[derive(Clone, Copy, Default)]
 pub struct RowClaim {
     pub row: u32,
     pub lacking: u32,
@@ -187,38 +182,17 @@ pub struct Grip {
     pub two: RowPart,
 }
 
-// What opening answers. The last three name the lowest slot that breaks a rule.
-#[derive(Clone, Copy)]
-pub enum Opened {
-    OpenAccepted,
-    OpenBadSizes,
-    OpenBadLengths,
-    OpenMisshapen(usize),
-    OpenAstray(usize),
-    OpenTwice(usize),
-}
-
-// What a start answers.
-#[derive(Clone, Copy)]
-pub enum Started {
-    StartAccepted,
-    StartBadSizes,
-    StartBadLengths,
-    StartNotStanding,
-    StartNoLane,
-    StartBusy,
-    StartBadKey,
-}
-
-// What a step answers.
-#[derive(Clone, Copy)]
-pub enum Stepped {
-    StepDone(Answer),
-    StepBadSizes,
-    StepBadLengths,
-    StepNotStanding,
-    StepNoLane,
-    StepIdle,
+// Why an opening, a start or a step is refused. Unsound names the lowest slot that breaks a rule, and which.
+#[derive(Clone, Copy, PartialEq, Eq)]
+pub enum Refusal {
+    BadSizes,
+    BadLengths,
+    Unsound(Fault),
+    NoLane,
+    Busy,
+    Idle,
+    NotStanding,
+    BadKey,
 }
 
 // What a start begins.

@@ -8,7 +8,4 @@ mod next;
 pub use going::{
     after_swing, drop_first, drop_low, ends, goes_to, insert_end, leave, seek_first, seek_second,
 };
-pub use next::{
-    after_attempt, look_next, picked_next, room_first, room_second, took_first, took_high,
-    took_low, took_main, took_next, took_second,
-};
+pub use next::{after_attempt, after_low, look_next, picked_next, room, row_grab};

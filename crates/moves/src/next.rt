@@ -1,111 +1,67 @@
 // The stage that follows a stage of one operation, by what its act saw. Values in, a value out, no memory.
-ghost use Rattle.std.specs.Prelude.{◌≡◌, cond, ◌+◌, ◌<◌, ltb};
-ghost use Rattle.places.specs.Table.{Fits};
+ghost use Rattle.std.specs.Prelude.{◌≡◌, cond, ◌+◌, ◌<◌, ltb, Some, None};
 ghost use Rattle.slots.specs.Slot.{is_empty};
 ghost use Rattle.locks.specs.Locks.{grab_of};
-ghost use Rattle.machine.specs.Steps.{mode_of, swing_rows, on_try, next_column, after_first, after_second, after_room, after_attempt};
+ghost use Rattle.machine.specs.Steps.{mode_of, swing_rows, next_column, after_first, after_second, after_room, after_attempt};
+ghost use Rattle.moves.specs.Looks.{past_room};
 
-use locks::{Grab, Mode, Tried, grab_of};
-use machine::{Ending, Found, Lane, Op, Outcome, Side, Stage, Trail, Walk};
-use paths::{Place, other_row};
-use places::Sizes;
+use locks::{Grab, Mode};
+use machine::{Ending, Lane, Op, Outcome, Side, Stage, Trail, Walk};
+use paths::Place;
+use places::{Layout, Sizes};
 use rows::{mode_of, shared_rows, swing_rows};
-use slots::{Slot, is_empty};
+use slots::Slot;
 
 // How an operation begins to take a row.
-fn row_grab(op: Op) -> Grab
+pub fn row_grab(op: Op) -> Grab
     ensures { result ≡ grab_of (mode_of op) }
 {
-    grab_of(mode_of(op))
+    mode_of(op).grab()
 }
 
-pub fn took_main(op: Op, tried: Tried) -> Stage
-    ensures { result ≡ on_try tried Stage.TakeMain (Stage.TakeFirst (grab_of (mode_of op))) }
+// A look goes through its row one slot a step: the next column, or none past the last.
+pub(super) fn next_column(z: Sizes, column: u32) -> Option<u32>
+    requires { column < z.columns }
+    ensures { result ≡ cond (ltb (column + 1) z.columns) (Some (column + 1)) None }
 {
-    match tried {
-        Tried::Held => Stage::TakeFirst(row_grab(op)),
-        Tried::Waits(g) => Stage::TakeMain(g),
-    }
-}
-
-pub fn took_first(tried: Tried) -> Stage
-    ensures { result ≡ on_try tried Stage.TakeFirst (Stage.SeekFirst 0) }
-{
-    match tried {
-        Tried::Held => Stage::SeekFirst(0),
-        Tried::Waits(g) => Stage::TakeFirst(g),
-    }
+    let next = column + 1;
+    (next < z.columns).then_some(next)
 }
 
 // The first row lacks the key.
-fn after_first(z: Sizes, lane: Lane) -> Stage
-    requires { Fits z }
-    ensures { result ≡ after_first z lane }
+pub(super) fn after_first(z: Layout, lane: Lane) -> Stage
+    ensures { result ≡ after_first z.sizes lane }
 {
-    let op = lane.op;
     if shared_rows(z, lane.key) {
         Stage::SeekSecond(0)
     } else {
-        Stage::TakeSecond(row_grab(op))
-    }
-}
-
-pub fn past_first(z: Sizes, lane: Lane, column: u32) -> Stage
-    requires fits { Fits z }
-    requires column_lt_columns { column < z.columns }
-    ensures { result ≡ next_column z column Stage.SeekFirst (after_first z lane) }
-{
-    if column + 1 < z.columns {
-        Stage::SeekFirst(column + 1)
-    } else {
-        after_first(z, lane)
-    }
-}
-
-pub fn took_second(tried: Tried) -> Stage
-    ensures { result ≡ on_try tried Stage.TakeSecond (Stage.SeekSecond 0) }
-{
-    match tried {
-        Tried::Held => Stage::SeekSecond(0),
-        Tried::Waits(g) => Stage::TakeSecond(g),
+        Stage::TakeSecond(row_grab(lane.op))
     }
 }
 
 // Neither row has the key.
-fn after_second(op: Op) -> Stage
+pub(super) fn after_second(op: Op) -> Stage
     ensures { result ≡ after_second op }
 {
     match op {
-        Op::NoOp => Stage::DropFirst(Outcome::Miss),
-        Op::Read => Stage::DropFirst(Outcome::Miss),
-        Op::Delete => Stage::DropFirst(Outcome::Miss),
-        Op::Insert => Stage::RoomFirst(0),
-        Op::Again => Stage::RoomFirst(0),
+        Op::Insert | Op::Again => Stage::RoomFirst(0),
+        _ => Stage::DropFirst(Outcome::Miss),
     }
 }
 
-pub fn past_second(z: Sizes, op: Op, column: u32) -> Stage
+// A look at a slot of a home row for room.
+pub fn room(z: Sizes, op: Op, s: Slot, side: Side, column: u32) -> Stage
     requires { column < z.columns }
-    ensures { result ≡ next_column z column Stage.SeekSecond (after_second op) }
+    ensures { result ≡ cond (is_empty s) (Stage.WriteRoom side column) (past_room z op side column) }
 {
-    if column + 1 < z.columns {
-        Stage::SeekSecond(column + 1)
-    } else {
-        after_second(op)
+    if s.is_empty() {
+        return Stage::WriteRoom(side, column);
     }
-}
-
-pub fn room_first(z: Sizes, s: Slot, column: u32) -> Stage
-    requires { column < z.columns }
-    ensures { result ≡ cond (is_empty s) (Stage.WriteRoom Side.First column) (next_column z column Stage.RoomFirst (Stage.RoomSecond 0)) }
-{
-    if is_empty(s) {
-        return Stage::WriteRoom(Side::First, column);
+    let next = next_column(z, column);
+    match side {
+        Side::First => next.map_or(Stage::RoomSecond(0), Stage::RoomFirst),
+        Side::Second => next.map_or(after_room(op), Stage::RoomSecond),
     }
-    if column + 1 < z.columns {
-        return Stage::RoomFirst(column + 1);
-    }
-    Stage::RoomSecond(0)
 }
 
 // Neither row has room.
@@ -113,118 +69,70 @@ fn after_room(op: Op) -> Stage
     ensures { result ≡ after_room op }
 {
     match op {
-        Op::NoOp => Stage::DropFirst(Outcome::Stuck),
-        Op::Read => Stage::DropFirst(Outcome::Stuck),
-        Op::Delete => Stage::DropFirst(Outcome::Stuck),
         Op::Insert => Stage::Pick,
-        Op::Again => Stage::DropFirst(Outcome::Stuck),
+        _ => Stage::DropFirst(Outcome::Stuck),
     }
 }
 
-pub fn room_second(z: Sizes, op: Op, s: Slot, column: u32) -> Stage
-    requires { column < z.columns }
-    ensures { result ≡ cond (is_empty s) (Stage.WriteRoom Side.Second column) (next_column z column Stage.RoomSecond (after_room op)) }
-{
-    if is_empty(s) {
-        return Stage::WriteRoom(Side::Second, column);
-    }
-    if column + 1 < z.columns {
-        return Stage::RoomSecond(column + 1);
-    }
-    after_room(op)
-}
-
-pub fn took_next(tried: Tried, t: Trail) -> Stage
-    ensures { result ≡ on_try tried (λ h. Stage.TakeNext h t) (Stage.LookNext 0 t) }
-{
-    match tried {
-        Tried::Held => Stage::LookNext(0, t),
-        Tried::Waits(g) => Stage::TakeNext(g, t),
-    }
-}
-
+// A look at a slot of the row that an attempt is about.
 pub fn look_next(z: Sizes, s: Slot, column: u32, t: Trail) -> Stage
     requires { column < z.columns }
-    ensures { result ≡ cond (is_empty s) (Stage.DropNext (Found.Room column) t) (next_column z column (λ c. Stage.LookNext c t) (Stage.PickNext t)) }
+    ensures { result ≡ cond (is_empty s) (Stage.DropNext (Some column) t) (next_column z column (λ c. Stage.LookNext c t) (Stage.PickNext t)) }
 {
-    if is_empty(s) {
-        return Stage::DropNext(Found::Room(column), t);
+    if s.is_empty() {
+        return Stage::DropNext(Some(column), t);
     }
-    if column + 1 < z.columns {
-        return Stage::LookNext(column + 1, t);
-    }
-    Stage::PickNext(t)
+    next_column(z, column).map_or(Stage::PickNext(t), |c| Stage::LookNext(c, t))
 }
 
 // One more pick, and one more place.
 pub fn picked_next(t: Trail) -> Stage
     requires picks_bound { t.picks < 4294967295 }
     requires places_bound { t.places < 4294967295 }
-    ensures { result ≡ Stage.DropNext Found.Full (record { picks = t.picks + 1; places = t.places + 1 }) }
+    ensures { result ≡ Stage.DropNext None (record { picks = t.picks + 1; places = t.places + 1 }) }
 {
     let more = Trail {
         picks: t.picks + 1,
         places: t.places + 1,
     };
-    Stage::DropNext(Found::Full, more)
+    Stage::DropNext(None, more)
 }
 
 // A free place was found, or a full row.
-pub fn after_attempt(z: Sizes, last: Place, f: Found, t: Trail) -> Stage
-    requires { Fits z }
-    ensures { result ≡ after_attempt z last f t }
+pub fn after_attempt(z: Layout, last: Place, found: Option<u32>, t: Trail) -> Stage
+    ensures { result ≡ after_attempt z.sizes last found t }
 {
-    match f {
-        Found::Room(column) => {
+    match found {
+        Some(column) => {
             let w = Walk {
                 places: t.places,
-                row: other_row(z, last),
+                row: last.other_row(z),
                 column,
             };
-            Stage::TakeLow(grab_of(Mode::Writing), w)
+            Stage::TakeLow(Mode::Writing.grab(), w)
         }
-        Found::Full => after_full(z, t),
+        None => after_full(z, t),
     }
 }
 
 // H+1 attempts are all.
-fn after_full(z: Sizes, t: Trail) -> Stage
-    ensures { result ≡ cond (ltb z.rows t.picks) (Stage.DropMain (Ending.Searched t.places)) (Stage.TakeNext (grab_of Mode.Reading) t) }
+fn after_full(z: Layout, t: Trail) -> Stage
+    ensures { result ≡ cond (ltb z.sizes.rows t.picks) (Stage.DropMain (Ending.Searched t.places)) (Stage.TakeNext (grab_of Mode.Reading) t) }
 {
-    if z.rows < t.picks {
+    if z.sizes.rows < t.picks {
         Stage::DropMain(Ending::Searched(t.places))
     } else {
-        Stage::TakeNext(grab_of(Mode::Reading), t)
+        Stage::TakeNext(Mode::Reading.grab(), t)
     }
 }
 
 // The lower lock of a swing is held.
-fn after_low(z: Sizes, last: Place, w: Walk) -> Stage
-    requires { Fits z }
-    ensures { result ≡ cond (swing_rows z last w).shared (Stage.Swing w) (Stage.TakeHigh (grab_of Mode.Writing) w) }
+pub fn after_low(z: Layout, last: Place, w: Walk) -> Stage
+    ensures { result ≡ cond (swing_rows z.sizes last w).shared (Stage.Swing w) (Stage.TakeHigh (grab_of Mode.Writing) w) }
 {
     if swing_rows(z, last, w).shared {
         Stage::Swing(w)
     } else {
-        Stage::TakeHigh(grab_of(Mode::Writing), w)
-    }
-}
-
-pub fn took_low(z: Sizes, last: Place, tried: Tried, w: Walk) -> Stage
-    requires { Fits z }
-    ensures { result ≡ on_try tried (λ h. Stage.TakeLow h w) (cond (swing_rows z last w).shared (Stage.Swing w) (Stage.TakeHigh (grab_of Mode.Writing) w)) }
-{
-    match tried {
-        Tried::Held => after_low(z, last, w),
-        Tried::Waits(g) => Stage::TakeLow(g, w),
-    }
-}
-
-pub fn took_high(tried: Tried, w: Walk) -> Stage
-    ensures { result ≡ on_try tried (λ h. Stage.TakeHigh h w) (Stage.Swing w) }
-{
-    match tried {
-        Tried::Held => Stage::Swing(w),
-        Tried::Waits(g) => Stage::TakeHigh(g, w),
+        Stage::TakeHigh(Mode::Writing.grab(), w)
     }
 }

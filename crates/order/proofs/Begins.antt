@@ -2,16 +2,13 @@
 -- Assumes nothing.
 use mathlib.Core.Path.{◌≡◌, refl, ap, ◌∙◌}
 use mathlib.Core.Logic.{◌≢◌}
-use Prim.Native.Nat.{ℕ, ◌+◌, ◌*◌, ◌≤◌}
+use Prim.Native.Nat.{ℕ}
 use native.Mathlib.Omega.{arith}
-use lib.ListN.{length}
-use Rattle.lists.proofs.Products.{row_ends}
 use Rattle.places.specs.declared.Sizes.{Sizes}
 use Rattle.paths.specs.Path.{place_at, emptied}
 use Rattle.machine.specs.Lane.{lane_at, with_lane, idle_lane}
 use Rattle.machine.proofs.Numbers.{lane_same, lane_other, opened_lane}
 use Rattle.machine.specs.declared.Request.{Request}
-use Rattle.machine.specs.declared.Request.TheVariants.{AskRead, AskDelete, AskInsert}
 use Rattle.machine.specs.Standing.{Table}
 use Rattle.machine.specs.Desk.{opening_number, after_opening, opened, begun, start_answer, start_number, started, after_start}
 use Rattle.kept.proofs.Facts.{last_for}
@@ -33,7 +30,7 @@ module _ (z : Sizes) (t : Table) (e : (opening_number z t).number ≡ 0) where
 
   pub opening_lanes : (i : ℕ) → lane_at (after_opening z t).lanes i ≡ idle_lane
   unfolding opened emptied
-  opening_lanes i = ap (λ (u : Table). lane_at u.lanes i) (opening_is z t e) ∙ opened_lane (length t.lanes) i
+  opening_lanes i = grind (arith, opening_is, opened_lane)
 
 -- ---- start
 
@@ -55,15 +52,10 @@ module _ (z : Sizes) (t : Table) (j : ℕ) (r : Request) (e : start_number (star
   start_idle = idle_lane_lem z (lane_at t.lanes j) (last_for (place_at t.path) (lane_at t.lanes j)) ((standing_facts z t passed.stood).stands.range j passed.lane) passed.idle
 
   pub start_here : lane_at (started_by t j r).lanes j ≡ begun r
-  start_here =
-      let ends : j * 14 + 14 ≤ z.lanes * 14 = row_ends 14 passed.lane in
-      let long : length t.lanes ≡ z.lanes * 14 = lanes_of z t passed.lengths in
-      lane_same t.lanes j (begun r) (omega arith)
+  start_here = grind (arith, passed, lanes_of, lane_same)
 
   pub start_there : (i : ℕ) → i ≢ j → lane_at (started_by t j r).lanes i ≡ lane_at t.lanes i
   start_there = lane_other t.lanes j (begun r)
 
 pub begun_waits : (r : Request) → ghost (begun r) ≡ waits (asked r)
-begun_waits (AskRead key) = refl
-begun_waits (AskDelete key) = refl
-begun_waits (AskInsert key value) = refl
+begun_waits r = grind arith

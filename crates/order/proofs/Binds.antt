@@ -1,11 +1,10 @@
 -- What a step does to the bindings, by the stage of its lane: a write binds its lane's key anew, every other step leaves all alone.
 -- Assumes nothing.
-use mathlib.Core.Path.{◌≡◌, refl, ap}
+use mathlib.Core.Path.{◌≡◌, refl}
 use mathlib.Core.Logic.{◌≢◌}
 use mathlib.Core.Bool.{true, false}
 use mathlib.Core.Option.{Option, some}
 use Prim.Native.Nat.{ℕ, ◌≤◌, ◌<◌}
-use native.Mathlib.Decide.{ℕ_discrete}
 use native.Mathlib.Omega.{arith}
 use borrow.Author.Tests.{eq-eqb, ne_eqb, eqb-true, ltb-true, leb-true}
 use Rattle.lists.proofs.Below.{Each}
@@ -44,13 +43,7 @@ binds_other x key b k d = rw (ne_eqb k key d)
 
 -- a map that is x but for key, where it has b
 pub binds_is : (x x' : Bindings) (key : ℕ) (b : Option ℕ) → x' key ≡ b → ((k : ℕ) → k ≢ key → x' k ≡ x k) → x' ≡ binds x key b
-binds_is x x' key b own others = λ i k. at k i
-  where
-    at : (k : ℕ) → x' k ≡ binds x key b k
-    at k = elim (ℕ_discrete k key) [
-      | yes e ↦ rw (e, binds_own x key b) own
-      | no d ↦ rw (binds_other x key b k d) (others k d)
-    ]
+binds_is x x' key b own others = grind (arith, binds_own, binds_other)
 
 -- ---- the stages
 
@@ -87,7 +80,7 @@ module _ (z : Sizes) (f : Fits z) (v v' : ℕ → Slot) (sv : SoundSlots z v) (l
   X' = bound_in (slot_count z) v'
 
   quiet : Quiet v v' → X' ≡ X
-  quiet same = ap (λ (u : ℕ → Slot). bound_in (slot_count z) u) (λ i j. same j i)
+  quiet same = grind arith
 
   stored : (b : Option ℕ) → Rebinds (slot_count z) v v' l.key b → X' ≡ binds X l.key b
   stored b r = binds_is X X' l.key b r.own r.others

@@ -1,24 +1,20 @@
 -- Every step keeps the counts of its operation's history to what its lane's stage says.
 -- Assumes nothing.
-use mathlib.Core.Path.{◌≡◌, refl, sym, ◌∙◌}
+use mathlib.Core.Path.{◌≡◌, refl, ◌∙◌}
 use mathlib.Core.Logic.{◌≢◌}
-use mathlib.Core.Bool.{Bool, true, false, cond, not, ◌&&◌, and-true, and-false}
+use mathlib.Core.Bool.{Bool, true, false}
 use Prim.Native.Nat.{ℕ, ◌+◌, ◌-◌, ◌≤◌, ◌<◌}
-use native.Mathlib.Nat.{add-zero}
 use native.Mathlib.Omega.{arith}
 use lib.Dec.{eqb, ltb}
-use borrow.Author.Tests.{eqb-true, eq-eqb, ne_eqb, ltb-true, ltb-false, lt-ltb, leb-true}
+use borrow.Author.Tests.{eqb-true, eq-eqb, ne_eqb, ltb-true, ltb-false, leb-true}
 use Rattle.lists.specs.Below.{bit}
 use Rattle.lists.proofs.Below.{Each}
 use Rattle.places.specs.declared.Sizes.{Sizes}
 use Rattle.places.specs.Table.{Fits}
 use Rattle.slots.specs.Slot.{is_empty, is_full, holds}
-use Rattle.slots.proofs.Bindings.{empty_not_full}
 use Rattle.paths.specs.declared.Place.{Place}
 use Rattle.machine.specs.declared.Op.{Op}
-use Rattle.machine.specs.declared.Op.TheVariants.{NoOp, Read, Delete, Insert, Again}
 use Rattle.machine.specs.declared.Outcome.{Outcome}
-use Rattle.machine.specs.declared.Outcome.TheVariants.{Hit, Wrote, Filled, Miss, Picked, Stuck}
 use Rattle.machine.specs.declared.Walk.{Walk}
 use Rattle.machine.specs.declared.Stage.{Stage}
 use Rattle.machine.specs.declared.Stage.TheVariants.{Swing}
@@ -27,35 +23,15 @@ use Rattle.machine.specs.declared.Seen.{Seen}
 use Rattle.machine.specs.declared.Moved.{Moved}
 use Rattle.machine.specs.Claims.{is_first_pass, is_second_pass, stage_in}
 use Rattle.machine.proofs.Ops.{insert_second}
-use Rattle.machine.proofs.Ways.{Leaves, leaves_hit, leaves_ended, leaves_wrote, leaves_filled, leaves_miss, leaves_picked, leaves_stuck, Swings, swings_again, swings_on, Goes, rests, main_waits, main_held, first_waits, first_held, first_read, first_hit, first_more, first_shared, first_apart, second_waits, second_held, second_read, second_hit, second_more, second_miss, second_room, room_first, room_first_more, room_first_full, room_second, room_second_more, room_pick, room_stuck, wrote_hit, wrote_room, picked_first, drops_on, drops_one, drops_two_lem, drops_main, next_waits, next_held, next_free, next_more, next_full, next_picked, next_walk, next_over, next_again, low_waits, low_shared, low_apart, high_waits, high_held, swings, drops_low, drops_both, drops_high}
+use Rattle.machine.proofs.Ways.{Leaves, leaves_hit, leaves_ended, leaves_wrote, leaves_filled, leaves_miss, leaves_picked, leaves_stuck, Swings, Goes, rests, main_waits, main_held, first_waits, first_held, first_read, first_hit, first_more, first_shared, first_apart, second_waits, second_held, second_read, second_hit, second_more, second_miss, second_room, room_first, room_first_more, room_first_full, room_second, room_second_more, room_pick, room_stuck, wrote_hit, wrote_room, picked_first, drops_on, drops_one, drops_two_lem, drops_main, next_waits, next_held, next_free, next_more, next_full, next_picked, next_walk, next_over, next_again, low_waits, low_shared, low_apart, high_waits, high_held, swings, drops_low, drops_both, drops_high}
 use Rattle.order.specs.History.{seeks, rooms, tries, picks, other, item, after_walk, full_on}
 use Rattle.order.proofs.Tally.{Tally, more, InPass, InSearch, InWalk, InWrite, IsStuck, OutcomeCounts, Counts}
 
 first_not_second : (op : Op) → is_first_pass op ≡ true → is_second_pass op ≡ false
-first_not_second NoOp e = refl
-first_not_second Read e = refl
-first_not_second Delete e = refl
-first_not_second Insert e = refl
-first_not_second Again e = sym e
-
-at_most : (b : Bool) (n : ℕ) → cond b n 0 ≤ n
-at_most true n = omega arith
-at_most false n = omega arith
-
--- one place more, after the walk
-one_more : (w b a : Bool) (n m : ℕ) → w ≡ b → a ≡ true → m ≡ cond b n 0 → cond (w && (eqb n m && a)) (m + 1) m ≡ cond b (n + 1) 0
-one_more w true a n m p q e = rw (p, e, eq-eqb n n refl, q) refl
-one_more w false a n m p q e = rw p e
-
--- no place more
-none_more : (b c a : Bool) (m : ℕ) → a ≡ false → cond (b && (c && a)) (m + 1) m ≡ m
-none_more b c a m e = rw (e, and-false c, and-false b) refl
-
-both : (a b c : Bool) → a ≡ c → b ≡ true → (a && b) ≡ c
-both a b c p q = rw (p, q) (and-true c)
+first_not_second op e = grind arith
 
 pass_to : (z : Sizes) (op : Op) (m m' k k' : ℕ) (c : Tally) → m ≡ m' → k ≡ k' → InPass z op m k c → InPass z op m' k' c
-pass_to z op m m' k k' c p q h = record { writes = h.writes; picks = h.picks; swings = h.swings; full = h.full; missed = rw (← p) h.missed; crowded = rw (← q) h.crowded }
+pass_to z op m m' k k' c p q h = grind arith
 
 module _ (z : Sizes) (f : Fits z) (l : Lane) (seen : Seen) (c : Tally) where
   abbrev B : Bool
@@ -70,32 +46,27 @@ module _ (z : Sizes) (f : Fits z) (l : Lane) (seen : Seen) (c : Tally) where
 
   -- a pass is after the walk if it is the second
   after_walk_lem : (m k : ℕ) → InPass z l.op m k c → after_walk c.picks c.swings ≡ B
-  after_walk_lem m k h = both (ltb 0 c.picks) (eqb c.swings c.picks) B h.picks (eq-eqb c.swings c.picks h.swings)
+  after_walk_lem m k h = grind arith
 
   -- ---- a step that is no look, no write, no pick and no swing
 
   pass : (m k : ℕ) → InPass z l.op m k c → InPass z l.op m k (more z l seen other c)
-  pass m k h = record { writes = (omega (arith, h.writes)); picks = rw (add-zero c.picks) h.picks; swings = (omega (arith, h.swings)); full = rw full_zero h.full; missed = h.missed; crowded = h.crowded }
+  pass m k h = grind arith
 
   pub search : (n p : ℕ) → InSearch n p c → InSearch n p (more z l seen other c)
-  search n p h = record { writes = (omega (arith, h.writes)); picks = (omega (arith, h.picks)); swings = (omega (arith, h.swings)); full = rw full_zero h.full; missed = h.missed; crowded = h.crowded }
+  search n p h = grind arith
 
   walk : (n : ℕ) → InWalk z n c → InWalk z n (more z l seen other c)
-  walk n h = record { writes = (omega (arith, h.writes)); picks = (omega (arith, h.picks)); swings = (omega (arith, h.swings)); full = rw full_zero h.full; missed = h.missed; crowded = h.crowded }
+  walk n h = grind arith
 
   pub wrote : (n : ℕ) → InWrite z n c → InWrite z n (more z l seen other c)
-  wrote n h = record { writes = (omega (arith, h.writes)); full = rw full_zero h.full; crowded = h.crowded }
+  wrote n h = grind arith
 
   pub stuck : IsStuck z c → IsStuck z (more z l seen other c)
-  stuck h = record { writes = (omega (arith, h.writes)); full = rw full_zero h.full; missed = h.missed; crowded = h.crowded }
+  stuck h = grind arith
 
   outcome : (o : Outcome) → OutcomeCounts z o c → OutcomeCounts z o (more z l seen other c)
-  outcome (Hit side column value) h = (omega (arith, h))
-  outcome (Wrote side) h = wrote 1 h
-  outcome Filled h = wrote 1 h
-  outcome Miss h = (omega (arith, h))
-  outcome Picked h = search 0 1 h
-  outcome Stuck h = stuck h
+  outcome o h = grind arith
 
   left : (o : Outcome) (m : Moved) → OutcomeCounts z o c → Leaves l o m → Counts z m.lane.op m.lane.stage (more z l seen other c)
   left o m h leaves_hit = tt
@@ -107,35 +78,24 @@ module _ (z : Sizes) (f : Fits z) (l : Lane) (seen : Seen) (c : Tally) where
   left o m h leaves_stuck = stuck h
 
   swung : (last : Place) (n : ℕ) (m : Moved) → InWalk z n c → Swings l last n m → Counts z m.lane.op m.lane.stage (more z l seen other c)
-  swung last n m h (swings_again a) =
-      (let w : _ = walk n h in record { writes = w.writes; picks = lt-ltb 0 (c.picks + 0) (omega (arith, h.picks)); swings = (omega (arith, h.swings)); full = w.full; missed = w.missed; crowded = w.crowded })
-  swung last n m h (swings_on a) = walk n h
+  swung last n m h k = grind arith
 
   -- ---- a pick, and a swing
 
   picked : (n p : ℕ) → InSearch n p c → InSearch n (p + 1) (more z l seen picks c)
-  picked n p h = record { writes = (omega (arith, h.writes)); picks = (omega (arith, h.picks)); swings = (omega (arith, h.swings)); full = rw full_zero h.full; missed = h.missed; crowded = h.crowded }
+  picked n p h = grind arith
 
   swing : (w : Walk) → 1 ≤ w.places → InWalk z w.places c → InWalk z (w.places - 1) (more z l seen (item z (Swing w)) c)
-  swing w b h = record { writes = (omega (arith, h.writes)); picks = (omega (arith, h.picks)); swings = (omega (arith, h.swings)); full = rw full_zero h.full; missed = h.missed; crowded = h.crowded }
+  swing w b h = grind arith
 
   -- ---- a look for the key
 
   module _ (n : ℕ) where
     seek_miss : (k : ℕ) → holds seen.slot l.key ≡ false → InPass z l.op n k c → InPass z l.op (n + 1) k (more z l seen (seeks n) c)
-    seek_miss k q h =
-        record {
-          writes = (omega (arith, h.writes));
-          picks = rw (add-zero c.picks) h.picks;
-          swings = (omega (arith, h.swings));
-          full = rw full_zero h.full;
-          missed = (one_more (after_walk c.picks c.swings) B (not (holds seen.slot l.key)) n c.missed (after_walk_lem n k h) (rw q refl) h.missed);
-          crowded = h.crowded;
-        }
+    seek_miss k q h = grind (arith, after_walk_lem)
 
     seek_hit : InPass z l.op n 0 c → InWrite z 0 (more z l seen (seeks n) c)
-    seek_hit h =
-        record { writes = (omega (arith, h.writes)); full = rw full_zero (omega (arith, h.full, at_most B z.rows)); crowded = (omega (arith, h.crowded, at_most B 0, f.columns_low)) }
+    seek_hit h = grind arith
 
     seek_ends : (k : ℕ) → InPass z l.op n k c → (more z l seen (seeks n) c).writes ≡ 0
     seek_ends k h = (omega (arith, h.writes))
@@ -144,23 +104,10 @@ module _ (z : Sizes) (f : Fits z) (l : Lane) (seen : Seen) (c : Tally) where
 
   module _ (n m : ℕ) where
     room_none : is_full seen.slot ≡ true → InPass z l.op m n c → InPass z l.op m (n + 1) (more z l seen (rooms n) c)
-    room_none q h =
-        record {
-          writes = (omega (arith, h.writes));
-          picks = rw (add-zero c.picks) h.picks;
-          swings = (omega (arith, h.swings));
-          full = rw full_zero h.full;
-          missed = h.missed;
-          crowded = (one_more (after_walk c.picks c.swings) B (is_full seen.slot) n c.crowded (after_walk_lem m n h) q h.crowded);
-        }
+    room_none q h = grind (arith, after_walk_lem)
 
     room_seen : is_empty seen.slot ≡ true → n < z.columns + z.columns → InPass z l.op m n c → InWrite z 0 (more z l seen (rooms n) c)
-    room_seen q b h =
-        record {
-          writes = (omega (arith, h.writes));
-          full = rw full_zero (omega (arith, h.full, at_most B z.rows));
-          crowded = rw (none_more (after_walk c.picks c.swings) (eqb n c.crowded) (is_full seen.slot) c.crowded (empty_not_full seen.slot q)) (omega (arith, h.crowded, at_most B n));
-        }
+    room_seen q b h = grind arith
 
   -- ---- a look of an attempt
 
@@ -169,13 +116,13 @@ module _ (z : Sizes) (f : Fits z) (l : Lane) (seen : Seen) (c : Tally) where
     try_full q = rw (here, q, eq-eqb n n refl) refl
 
     try_more : is_full seen.slot ≡ true → n + 1 ≢ z.columns → InSearch p k c → InSearch p k (more z l seen (tries n) c)
-    try_more q d h = record { writes = (omega (arith, h.writes)); picks = (omega (arith, h.picks)); swings = (omega (arith, h.swings)); full = rw (try_full q, full_same (n + 1) d) h.full; missed = h.missed; crowded = h.crowded }
+    try_more q d h = grind arith
 
     try_last : is_full seen.slot ≡ true → n + 1 ≡ z.columns → InSearch p k c → InSearch (p + 1) k (more z l seen (tries n) c)
-    try_last q d h = record { writes = (omega (arith, h.writes)); picks = (omega (arith, h.picks)); swings = (omega (arith, h.swings)); full = rw (try_full q, eq-eqb (n + 1) z.columns d) (omega (arith, h.full)); missed = h.missed; crowded = h.crowded }
+    try_last q d h = grind arith
 
     try_free : is_empty seen.slot ≡ true → InSearch p k c → InSearch p k (more z l seen (tries n) c)
-    try_free q h = record { writes = (omega (arith, h.writes)); picks = (omega (arith, h.picks)); swings = (omega (arith, h.swings)); full = rw (empty_not_full seen.slot q, and-false (eqb n c.columns), full_zero) h.full; missed = h.missed; crowded = h.crowded }
+    try_free q h = grind arith
 
   -- ---- from one part of the steps to the next
 
@@ -188,13 +135,13 @@ module _ (z : Sizes) (f : Fits z) (l : Lane) (seen : Seen) (c : Tally) where
       record { writes = h.writes; picks = none; swings = h.swings ∙ none; full = (let q : _ = rw e at h.full in omega arith); missed = rw e at h.missed; crowded = rw e at h.crowded }
 
   to_stuck : {d : Tally} → is_second_pass l.op ≡ true → InPass z l.op (z.columns + z.columns) (z.columns + z.columns) d → IsStuck z d
-  to_stuck e h = record { writes = h.writes; full = rw e at h.full; missed = rw e at h.missed; crowded = rw e at h.crowded }
+  to_stuck e h = grind arith
 
   to_walk : {n p : ℕ} {d : Tally} → n ≤ z.rows → p ≡ n + 1 → InSearch n p d → InWalk z p d
-  to_walk q e h = record { writes = h.writes; picks = (omega (arith, h.picks)); swings = (omega (arith, h.picks, h.swings)); full = omega (arith, h.full); missed = h.missed; crowded = h.crowded }
+  to_walk q e h = grind arith
 
   to_over : {n p : ℕ} {d : Tally} → n ≡ z.rows + 1 → p ≡ n + 1 → InSearch n p d → InSearch (z.rows + 1) (z.rows + 2) d
-  to_over q e h = record { writes = h.writes; picks = (omega (arith, h.picks)); swings = h.swings; full = h.full ∙ q; missed = h.missed; crowded = h.crowded }
+  to_over q e h = grind arith
 
   -- ---- every way
 

@@ -3,9 +3,10 @@
 use mathlib.Core.Path.{◌≡◌, refl, ap, ◌∙◌}
 use mathlib.Core.Logic.{◌≢◌}
 use mathlib.Core.Bool.{true, false}
-use Prim.Native.Nat.{ℕ, ◌<◌}
+use Prim.Native.Nat.{ℕ}
 use native.Mathlib.Omega.{arith}
 use borrow.Author.Tests.{lt-ltb, leb-true}
+use Rattle.std.specs.Prelude.{Ok}
 use Rattle.lists.proofs.Below.{Each}
 use Rattle.places.specs.declared.Sizes.{Sizes}
 use Rattle.places.specs.Table.{Fits, max_key}
@@ -20,7 +21,6 @@ use Rattle.machine.specs.Lane.{lane_at, with_lane}
 use Rattle.machine.specs.Steps.{Memory, act_at, perform, advance_at, step_lane}
 use Rattle.machine.specs.Claims.{is_idle_op, lane_in, claims_of}
 use Rattle.machine.proofs.Numbers.{lane_same, lane_other}
-use Rattle.machine.specs.declared.Stepped.TheVariants.{StepDone}
 use Rattle.machine.specs.Standing.{Table}
 use Rattle.machine.specs.Desk.{memory_of, turned, step_answer, step_numbers, after_step}
 use Rattle.machine.proofs.Claimed.{Claimed}
@@ -72,12 +72,12 @@ module _ (z : Sizes) (t : Table) (j byte : ℕ) (e : (step_numbers (step_answer 
   pub step_table : after_step z t j byte ≡ table_by z t j byte
   step_table = step_is z t j byte e ∙ turned_table
 
-  step_done : step_answer z t j byte ≡ StepDone (turned z t j byte).answer
+  step_done : step_answer z t j byte ≡ Ok (turned z t j byte).answer
   unfolding step_answer
   step_done = let a : StepAccepted z t j = accepted in rw (a.sizes, a.lengths, a.stands, lt-ltb j z.lanes a.lane, a.busy) refl
 
-  pub step_answer_lem : step_answer z t j byte ≡ StepDone (moved_by z t j byte).answer
-  step_answer_lem = step_done ∙ ap StepDone turned_answer
+  pub step_answer_lem : step_answer z t j byte ≡ Ok (moved_by z t j byte).answer
+  step_answer_lem = step_done ∙ ap Ok turned_answer
 
   pub step_busy : is_idle_op (lane_of t j).op ≡ false
   step_busy = accepted.busy
@@ -95,7 +95,7 @@ module _ (z : Sizes) (t : Table) (j byte : ℕ) (e : (step_numbers (step_answer 
   step_fits = fits
 
   pub step_here : lane_of (table_by z t j byte) j ≡ (moved_by z t j byte).lane
-  step_here = let h : j < z.lanes = accepted.lane in lane_same t.lanes j (moved_by z t j byte).lane (omega (arith, lanes_of z t accepted.lengths))
+  step_here = grind (arith, accepted, lane_same, lanes_of)
 
   pub step_there : (i : ℕ) → i ≢ j → lane_of (table_by z t j byte) i ≡ lane_of t i
   step_there i d = lane_other t.lanes j (moved_by z t j byte).lane i d
@@ -107,7 +107,7 @@ module _ (z : Sizes) (t : Table) (j byte : ℕ) (e : (step_numbers (step_answer 
   step_claims = standing.stands.claims j accepted.lane
 
   pub step_goes : Goes z (lane_of t j) (last_on t j) (seen_by z t j byte) (lane_of t j).stage (moved_by z t j byte)
-  step_goes = goes z (lane_of t j) (last_on t j) (seen_by z t j byte) (lane_of t j).stage
+  step_goes = grind (arith, goes)
 
   pub step_binds : BindsAt (bindings z t) (bindings z (table_by z t j byte)) (lane_of t j) (lane_of t j).stage
   step_binds =
@@ -124,4 +124,4 @@ module _ (z : Sizes) (t : Table) (j byte : ℕ) (e : (step_numbers (step_answer 
 
   -- a slot that was looked at is empty or full
   pub step_solid : is_empty (seen_by z t j byte).slot ≡ false → is_full (seen_by z t j byte).slot ≡ true
-  step_solid = solid z fits (lane_of t j) (last_on t j) byte (memory_of t) standing.stands.sound (lane_of t j).stage step_range.1.1
+  step_solid = grind (arith, solid, fits, standing, step_range)

@@ -8,25 +8,20 @@ use mathlib.Core.Option.{Option, none, some}
 use Prim.Native.Nat.{ℕ}
 use native.Mathlib.Omega.{arith}
 use lib.Dec.{eqb}
-use borrow.Author.Tests.{eq-eqb, ne_eqb}
 use Rattle.lists.proofs.Below.{Each}
 use Rattle.places.specs.declared.Sizes.{Sizes}
 use Rattle.paths.specs.declared.Place.{Place}
 use Rattle.paths.specs.Path.{last_of}
-use Rattle.machine.specs.declared.Op.{Op}
-use Rattle.machine.specs.declared.Op.TheVariants.{NoOp, Read, Delete, Insert, Again}
 use Rattle.machine.specs.declared.Stage.{Stage}
-use Rattle.machine.specs.declared.Stage.TheVariants.{Idle, TakeMain, TakeFirst, SeekFirst, TakeSecond, SeekSecond, RoomFirst, RoomSecond, WriteHit, WriteRoom, Pick, DropFirst, DropSecond, DropMain, TakeNext, LookNext, PickNext, DropNext, TakeLow, TakeHigh, Swing, DropLow, DropHigh}
+use Rattle.machine.specs.declared.Stage.TheVariants.{Idle}
 use Rattle.machine.specs.declared.Lane.{Lane}
-use Rattle.machine.specs.Claims.{is_idle_op, is_insert, writes_hit, stage_in}
+use Rattle.machine.specs.Claims.{stage_in}
 use Rattle.machine.specs.declared.Request.{Request}
-use Rattle.machine.specs.declared.Request.TheVariants.{AskRead, AskDelete, AskInsert}
 use Rattle.machine.specs.Standing.{Table}
-use Rattle.machine.specs.Desk.{begun, start_answer, start_number, step_answer, step_numbers}
-use Rattle.kept.proofs.Stores.{binds_to}
+use Rattle.machine.specs.Desk.{start_answer, start_number, step_answer, step_numbers}
 use Rattle.linear.specs.Log.{Op as MapOp, Ans, read_none, read_value, deleted, insert_yes, insert_searched, insert_walked}
-use Rattle.linear.specs.Map.{Bindings, binds, after}
-use Rattle.order.specs.Run.{start, step, next, bindings, op_in, op_at, answer_of, end_by}
+use Rattle.linear.specs.Map.{Bindings, after}
+use Rattle.order.specs.Run.{start, step, next, bindings, op_at, answer_of, end_by}
 use Rattle.order.specs.History.{Sight, sight, item, is_write}
 use Rattle.order.specs.Demand2.{ends_insert, StepDoes}
 use Rattle.order.proofs.Binds.{BindsAt}
@@ -42,44 +37,8 @@ data Effect (x x' : Bindings) (o : MapOp) (writes : Bool) : Type 0 where
   leaves : writes ≡ false → x' ≡ x → Effect x x' o writes
   changes : writes ≡ true → x' ≡ after o none x → Effect x x' o writes
 
-hit_after : (x x' : Bindings) (key value : ℕ) (op : Op) → writes_hit op ≡ true → x' ≡ binds x key (binds_to op value) → x' ≡ after (op_in op key value) none x
-hit_after x x' key value NoOp w e = absurd (false≢true w)
-hit_after x x' key value Read w e = absurd (false≢true w)
-hit_after x x' key value Delete w e = e
-hit_after x x' key value Insert w e = e
-hit_after x x' key value Again w e = e
-
-room_after : (x x' : Bindings) (key value : ℕ) (op : Op) → is_insert op ≡ true → x' ≡ binds x key (some value) → x' ≡ after (op_in op key value) none x
-room_after x x' key value NoOp w e = absurd (false≢true w)
-room_after x x' key value Read w e = absurd (false≢true w)
-room_after x x' key value Delete w e = absurd (false≢true w)
-room_after x x' key value Insert w e = e
-room_after x x' key value Again w e = e
-
 effect : (z : Sizes) (x x' : Bindings) (l : Lane) (last : Place) (s : Stage) → Each (stage_in z l last s) → BindsAt x x' l s → Effect x x' (op_at l) (is_write (item z s))
-effect z x x' l last Idle r h = leaves refl h
-effect z x x' l last (TakeMain g) r h = leaves refl h
-effect z x x' l last (TakeFirst g) r h = leaves refl h
-effect z x x' l last (SeekFirst n) r h = leaves refl h
-effect z x x' l last (TakeSecond g) r h = leaves refl h
-effect z x x' l last (SeekSecond n) r h = leaves refl h
-effect z x x' l last (RoomFirst n) r h = leaves refl h
-effect z x x' l last (RoomSecond n) r h = leaves refl h
-effect z x x' l last (WriteHit side n) r h = changes refl (hit_after x x' l.key l.value l.op r.0 h)
-effect z x x' l last (WriteRoom side n) r h = changes refl (room_after x x' l.key l.value l.op r.0 h)
-effect z x x' l last Pick r h = leaves refl h
-effect z x x' l last (DropFirst o) r h = leaves refl h
-effect z x x' l last (DropSecond o) r h = leaves refl h
-effect z x x' l last (DropMain e) r h = leaves refl h
-effect z x x' l last (TakeNext g t) r h = leaves refl h
-effect z x x' l last (LookNext n t) r h = leaves refl h
-effect z x x' l last (PickNext t) r h = leaves refl h
-effect z x x' l last (DropNext a t) r h = leaves refl h
-effect z x x' l last (TakeLow g w) r h = leaves refl h
-effect z x x' l last (TakeHigh g w) r h = leaves refl h
-effect z x x' l last (Swing w) r h = leaves refl h
-effect z x x' l last (DropLow w) r h = leaves refl h
-effect z x x' l last (DropHigh w) r h = leaves refl h
+effect z x x' l last s r h = grind arith
 
 -- ---- one step
 
@@ -111,10 +70,7 @@ module _ (z : Sizes) (t : Table) (j byte : ℕ) (e : (step_numbers (step_answer 
   end_is = ap end_by (step_answer_lem z t j byte e)
 
   busy : (lane_of t j).stage ≢ Idle
-  busy q = false≢true (sym (step_busy z t j byte e) ∙ idle (lane_of t j).stage q (step_range z t j byte e).1.1)
-    where
-      idle : (s : Stage) → s ≡ Idle → Each (stage_in z (lane_of t j) (last_on t j) s) → is_idle_op (lane_of t j).op ≡ true
-      idle s p r = (rw p at r).0
+  busy q = grind (arith, step_busy, step_range)
 
   bound : Effect (bindings z t) (bindings z (table_by z t j byte)) (op_at (lane_of t j)) (is_write (item z (lane_of t j).stage))
   bound = effect z (bindings z t) (bindings z (table_by z t j byte)) (lane_of t j) (last_on t j) (lane_of t j).stage (step_range z t j byte e).1.1 (step_binds z t j byte e)
@@ -155,16 +111,9 @@ module _ (z : Sizes) (t : Table) (j byte : ℕ) (e : (step_numbers (step_answer 
 
 -- ---- a run
 
-begun_counts : (z : Sizes) (r : Request) → CountsOf z (begun r) []
-begun_counts z (AskRead key) = record { writes = refl; picks = refl; swings = refl; full = omega arith; missed = refl; crowded = refl }
-begun_counts z (AskDelete key) = record { writes = refl; picks = refl; swings = refl; full = omega arith; missed = refl; crowded = refl }
-begun_counts z (AskInsert key value) = record { writes = refl; picks = refl; swings = refl; full = omega arith; missed = refl; crowded = refl }
-
 module _ (z : Sizes) (j : ℕ) where
   pub by_start : (t : Table) (i : ℕ) (r : Request) (h : List Sight) → start_number (start_answer z t i r) ≡ 0 → CountsOf z (lane_of t j) h → Dec (i ≡ j) → CountsOf z (lane_of (next z t (start i r)) j) (cond (eqb i j) [] h)
-  by_start t i r h e k (yes q) = rw (eq-eqb i j q, start_table z t i r e, ← q, start_here z t i r e) (begun_counts z r)
-  by_start t i r h e k (no d) = rw (ne_eqb i j d, start_table z t i r e, start_there z t i r e j (λ q. d (sym q))) k
+  by_start t i r h e k q = grind (arith, start_table, start_here, start_there)
 
   pub by_step : (t : Table) (i byte : ℕ) (h : List Sight) → (step_numbers (step_answer z t i byte)).number ≡ 0 → CountsOf z (lane_of t j) h → Dec (i ≡ j) → CountsOf z (lane_of (next z t (step i byte)) j) (cond (eqb i j) (sight z t i byte ∷ h) h)
-  by_step t i byte h e k (yes q) = rw (eq-eqb i j q, step_table z t i byte e, ← q, step_here z t i byte e) (counts_on z t i byte e h (rw (← q) at k))
-  by_step t i byte h e k (no d) = rw (ne_eqb i j d, step_table z t i byte e, step_there z t i byte e j (λ q. d (sym q))) k
+  by_step t i byte h e k q = grind (arith, step_table, step_here, counts_on, step_there)

@@ -8,12 +8,12 @@ use Prim.Native.Nat.{ℕ, ◌+◌}
 use native.Mathlib.Decide.{ℕ_discrete}
 use native.Mathlib.Omega.{arith}
 use borrow.Author.Tests.{eq-eqb, ne_eqb}
+use Rattle.std.specs.Prelude.{Result}
 use Rattle.places.specs.declared.Sizes.{Sizes}
 use Rattle.machine.specs.declared.Answer.{Answer}
-use Rattle.machine.specs.declared.Answer.TheVariants.{GoesOn, ReadNone, ReadValue, Deleted, InsertYes, InsertSearched, InsertWalked}
 use Rattle.machine.specs.Lane.{lane_at}
 use Rattle.machine.specs.declared.Request.{Request}
-use Rattle.machine.specs.declared.Stepped.{Stepped}
+use Rattle.machine.specs.declared.Refusal.{Refusal}
 use Rattle.machine.specs.Standing.{Table}
 use Rattle.machine.specs.Desk.{opening_number, after_opening, start_answer, start_number, step_answer, step_numbers}
 use Rattle.linear.specs.Log.{Note, starts, ends}
@@ -69,7 +69,7 @@ module _ (z : Sizes) (x₀ : Bindings) (t : Table) (own : ℕ → ℕ) (log : Li
   by_step : (j byte : ℕ) → (step_numbers (step_answer z t j byte)).number ≡ 0 → Next (step j byte) own (cond (places_now z t j byte) (own j ∷ []) [])
   by_step j byte e =
       carry (next z t (step j byte)) (table_by z t j byte) (notes z t (step j byte)) (end_note j (answer_of (moved_by z t j byte).answer)) own (cond (places_now z t j byte) (own j ∷ []) [])
-      (step_table z t j byte e) (ap (λ (s : Stepped). end_note j (end_by s)) (step_answer_lem z t j byte e))
+      (step_table z t j byte e) (ap (λ (s : Result Answer Refusal). end_note j (end_by s)) (step_answer_lem z t j byte e))
       (grow x₀ (bindings z t) (bindings z (table_by z t j byte)) (ghosts t) (ghosts (table_by z t j byte)) own log ds v j (λ i d. ap ghost (step_there z t j byte e i d)) (step_kind z t j byte e) refl (ap ghost (step_here z t j byte e)))
 
   own_same : (j k : ℕ) → owning own j k j ≡ k
@@ -99,13 +99,7 @@ count_more (starts i o ∷ log) new = omega (arith, count_more log new)
 count_more (ends i a ∷ log) new = count_more log new
 
 count_ends : (j : ℕ) (b : Answer) → count (end_note j (answer_of b)) ≡ 0
-count_ends j GoesOn = refl
-count_ends j ReadNone = refl
-count_ends j (ReadValue value) = refl
-count_ends j Deleted = refl
-count_ends j InsertYes = refl
-count_ends j InsertSearched = refl
-count_ends j InsertWalked = refl
+count_ends j b = grind arith
 
 -- what a run comes to from a state: the log and the order go on as the run's
 record Ran (z : Sizes) (x₀ : Bindings) (t : Table) (own : ℕ → ℕ) (log : List Note) (ds : List Deed) (es : List Event) : Type 0 where

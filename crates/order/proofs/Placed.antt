@@ -5,12 +5,12 @@ use mathlib.Core.Bool.{true, false, false≢true}
 use mathlib.Core.Option.{none, some}
 use Prim.Native.Nat.{ℕ, ◌+◌, ◌-◌, ◌<◌}
 use lib.Dec.{ltb}
-use borrow.Author.Tests.{ltb-true, ltb-false}
+use borrow.Author.Tests.{ltb-false}
 use borrow.Author.Count.{below_more}
 use native.Mathlib.Omega.{arith}
 use Rattle.lists.proofs.Below.{Each}
 use Rattle.places.specs.declared.Sizes.{Sizes}
-use Rattle.places.specs.Table.{Fits, slot_index, slot_count, row_at, home_one, home_two}
+use Rattle.places.specs.Table.{Fits, slot_index, slot_count, home_one, home_two}
 use Rattle.places.proofs.Limits.{slot_in_lem}
 use Rattle.slots.specs.declared.Slot.{Slot}
 use Rattle.slots.specs.Slot.{holds}
@@ -43,10 +43,7 @@ module _ (z : Sizes) (f : Fits z) (v : ℕ → Slot) (sv : SoundSlots z v) (x' :
 
   -- a hit in a row that is held: the key is bound to the value seen
   hit_bound : (side : Side) (c : ℕ) → ltb c z.columns ≡ true → seen.slot ≡ v (slot_index z (row_on z l.key side) c) → holds seen.slot l.key ≡ true → X l.key ≡ some seen.slot.value
-  hit_bound side c lc k h =
-      rw k
-      (bound_at (slot_count z) (row_at z) (home_one z) (home_two z) v sv (slot_index z (row_on z l.key side) c) l.key
-      (slot_in_lem z f (row_on z l.key side) c (row_in_lem z f l.key side) (ltb-true c z.columns lc)) (rw k at h))
+  hit_bound side c lc k h = grind (arith, bound_at, slot_in_lem, row_in_lem)
 
   -- a miss at the last column of the second row: the key is not bound
   miss_bound : (c : ℕ) → ltb (c + 1) z.columns ≡ false → seen.slot ≡ v (slot_index z (row_on z l.key Second) c) → holds seen.slot l.key ≡ false → Lacks z v (row_on z l.key First) l.key → ((i : ℕ) → i < c → holds (v (slot_index z (row_on z l.key Second) i)) l.key ≡ false) → X l.key ≡ none

@@ -1,6 +1,6 @@
 -- Demand 3: "Take any sequence of accepted starts and steps, with any bytes, from an opened table." A run, its bindings and its log.
 -- Assumes nothing.
-use Rattle.std.specs.Prelude.{◌≡◌, List, [], ◌∷◌, ◌++◌, ℕ}
+use Rattle.std.specs.Prelude.{◌≡◌, List, [], ◌∷◌, ◌++◌, ℕ, Result, Ok, Err}
 use Rattle.std.proofs.Math.Option.{Option, none, some}
 use Rattle.places.specs.declared.Sizes.{Sizes}
 use Rattle.slots.specs.Bound.{bound}
@@ -11,8 +11,7 @@ use Rattle.machine.specs.declared.Answer.{Answer}
 use Rattle.machine.specs.declared.Answer.TheVariants.{GoesOn, ReadNone, ReadValue, Deleted, InsertYes, InsertSearched, InsertWalked}
 use Rattle.machine.specs.declared.Request.{Request}
 use Rattle.machine.specs.declared.Request.TheVariants.{AskRead, AskDelete, AskInsert}
-use Rattle.machine.specs.declared.Stepped.{Stepped}
-use Rattle.machine.specs.declared.Stepped.TheVariants.{StepDone, StepBadSizes, StepBadLengths, StepNotStanding, StepNoLane, StepIdle}
+use Rattle.machine.specs.declared.Refusal.{Refusal}
 use Rattle.machine.specs.Standing.{Table}
 use Rattle.machine.specs.Desk.{start_answer, start_number, after_start, step_answer, step_numbers, after_step}
 use Rattle.linear.specs.Log.{Op, read, delete, insert, Ans, read_none, read_value, deleted, insert_yes, insert_searched, insert_walked, Note, starts, ends}
@@ -85,13 +84,9 @@ end_note j none = []
 end_note j (some ans) = ends j ans ∷ []
 
 -- the answer with which a call of step ends its lane's operation, if it does; a refusal ends none
-abbrev pub end_by : Stepped → Option Ans
-end_by (StepDone a) = answer_of a
-end_by StepBadSizes = none
-end_by StepBadLengths = none
-end_by StepNotStanding = none
-end_by StepNoLane = none
-end_by StepIdle = none
+abbrev pub end_by : Result Answer Refusal → Option Ans
+end_by (Ok a) = answer_of a
+end_by (Err r) = none
 
 -- what an event adds to the log
 abbrev pub notes : Sizes → Table → Event → List Note

@@ -2,10 +2,9 @@
 #![tactic(auto)]
 
 ghost use Rattle.std.specs.Prelude.{◌≡◌, ◌+◌, ◌*◌, ◌≤◌, ◌<◌, length};
-ghost use Rattle.places.specs.Table.{Fits};
 ghost use Rattle.paths.specs.Path.{place_at, with_place, no_place, emptied, last_of, other_row};
 
-use places::{Sizes, home_one, home_two};
+use places::Layout;
 
 // A place on the path: where a pair was seen, and its key.
 #[derive(Clone, Copy)]
@@ -15,6 +14,7 @@ pub struct Place {
     pub key: u32,
 }
 
+#[tactic(auto, unfolding(crate::specs::Path::place_at, lists::specs::Records::cell))]
 pub fn place_at(path: &[u32], i: usize) -> Place
     requires { i * 3 + 2 < length path.now }
     ensures { result ≡ place_at path.now i }
@@ -26,6 +26,7 @@ pub fn place_at(path: &[u32], i: usize) -> Place
     }
 }
 
+#[tactic(auto, unfolding(crate::specs::Path::with_place, lists::specs::Records::put))]
 pub fn set_place(path: &mut [u32], i: usize, p: Place)
     requires { i * 3 + 2 < length path.old }
     ensures { path.new ≡ with_place path.old i p }
@@ -35,50 +36,49 @@ pub fn set_place(path: &mut [u32], i: usize, p: Place)
     path[i * 3 + 2] = p.key;
 }
 
-// No place: what a place that has left the path is, and the last place of an empty one.
-pub fn no_place() -> Place
-    ensures { result ≡ no_place }
-{
-    Place {
-        row: 0,
-        column: 0,
-        key: 0,
-    }
-}
-
 // The last of n places.
+#[tactic(auto, unfolding(crate::specs::Path::last_of))]
 pub fn last_of(path: &[u32], n: u32) -> Place
     requires { n * 3 ≤ length path.now }
     ensures { result ≡ last_of path.now n }
 {
     if n == 0 {
-        no_place()
+        Place::none()
     } else {
         place_at(path, (n as usize) - 1)
     }
 }
 
 // Every place leaves the path.
+#[tactic(auto, unfolding(crate::specs::Path::emptied))]
 pub fn empty_path(path: &mut [u32])
     ensures { path.new ≡ emptied path.old }
 {
-    let n = path.len();
-    let mut i = 0;
-    while i < n {
-        path[i] = 0;
-        i += 1;
-    }
+    path.fill(0);
 }
 
-// The other home row of the key of a place.
-pub fn other_row(z: Sizes, p: Place) -> u32
-    requires { Fits z }
-    ensures { result ≡ other_row z p }
-{
-    let one = home_one(z, p.key);
-    if p.row == one {
-        home_two(z, p.key)
-    } else {
-        one
+impl Place {
+    // No place: what a place that has left the path is, and the last place of an empty one.
+    pub fn none() -> Place
+        ensures { result ≡ no_place }
+    {
+        Place {
+            row: 0,
+            column: 0,
+            key: 0,
+        }
+    }
+
+    // The other home row of its key.
+    #[tactic(auto, unfolding(crate::specs::Path::other_row))]
+    pub fn other_row(self, z: Layout) -> u32
+        ensures { result ≡ other_row z.sizes self }
+    {
+        let one = z.home_one(self.key);
+        if self.row == one {
+            z.home_two(self.key)
+        } else {
+            one
+        }
     }
 }

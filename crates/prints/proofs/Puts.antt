@@ -2,13 +2,14 @@
 -- Assumes nothing.
 use mathlib.Core.Path.{◌≡◌, refl, sym, ◌∙◌, ap}
 use mathlib.Core.List.{List, [], ◌∷◌, ◌++◌, append_assoc, append-nil}
-use Prim.Native.Nat.{ℕ, suc, ◌+◌, ◌≤◌, ◌<◌}
+use Prim.Native.Nat.{ℕ, suc, ◌+◌, ◌≤◌}
 use native.Mathlib.Nat.{add-zero}
-use native.Mathlib.Numerals.{add-one}
 use native.Mathlib.Omega.{arith}
-use lib.ListN.{length, get_or, drop, set, length-append, drop_of_length-le}
-use lib.Seq.{sets, length-sets, drop-cons}
-use Rattle.prints.specs.Put.{Put}
+use lib.ListN.{length, take, drop, set, length-append}
+use lib.Seq.{sets, sets-eq, length-sets, drop-drop}
+use borrow.Rule.Slice.PartMut.{put_mid}
+use Rattle.prints.specs.declared.Out.{Out}
+use Rattle.prints.specs.Put.{Put, Puts}
 
 sets_append : (p q l : List ℕ) (i : ℕ) → sets (sets l i p) (i + length p) q ≡ sets l i (p ++ q)
 sets_append [] q l i = rw add-zero
@@ -33,9 +34,6 @@ put_then {m} {n} {at} {was} {mid} {out} {p} {q} a b =
 pub put_length : {n at : ℕ} {was out p : List ℕ} → Put n at was out p → length out ≡ length was
 put_length {n} {at} {was} {out} {p} a = ap length a.bytes ∙ length-sets was at p
 
-pub put_one : (out : List ℕ) (n byte : ℕ) → Put (n + 1) n out (set out n byte) (byte ∷ [])
-put_one out n byte = record { offset = refl; bytes = refl }
-
 -- ---- amid a print: done is what stands there, rest is what is still to come, and together they are the whole
 
 pub record Amid (n at : ℕ) (was out rest whole : List ℕ) : Type 0 where
@@ -45,9 +43,6 @@ pub record Amid (n at : ℕ) (was out rest whole : List ℕ) : Type 0 where
 
 pub amid_start : (at : ℕ) (l whole : List ℕ) → Amid at at l l whole whole
 amid_start at l whole = record { done = []; put = put_none at l; joins = refl }
-
-pub amid_first : (at : ℕ) (l whole : List ℕ) → Amid (at + 0) at l l whole whole
-amid_first at l whole = rw add-zero (amid_start at l whole)
 
 pub amid_more : {m n at : ℕ} {was mid out p rest whole : List ℕ} → Amid m at was mid (p ++ rest) whole → Put n m mid out p → Amid n at was out rest whole
 amid_more {m} {n} {at} {was} {mid} {out} {p} {rest} {whole} a b =
@@ -59,17 +54,22 @@ amid_end {n} {at} {was} {out} {whole} a = let e : a.done ≡ whole = sym (append
 pub amid_length : {n at : ℕ} {was out rest whole : List ℕ} → Amid n at was out rest whole → length out ≡ length was
 amid_length a = put_length a.put
 
--- what is still to come has room where the whole has
-pub amid_room : {n at : ℕ} {was out rest whole : List ℕ} → Amid n at was out rest whole → n + length rest ≡ at + length whole
-amid_room {n} {at} {was} {out} {rest} {whole} a =
-    let e : length a.done + length rest ≡ length whole = sym (length-append a.done rest) ∙ ap length a.joins in omega (arith, a.put.offset)
+-- ---- what is put goes on where the last piece ended
 
--- a turn of the loop that copies
-pub copy_more : (was out text : List ℕ) (at i : ℕ) → i < length text → Amid (at + i) at was out (drop i text) text → Amid (at + (i + 1)) at was (set out (at + i) (get_or text i 0)) (drop (i + 1) text) text
-copy_more was out text at i h a =
-    let e : at + (i + 1) ≡ at + i + 1 = omega arith in
-    let d : drop i text ≡ (get_or text i 0 ∷ []) ++ drop (i + 1) text = drop-cons text i 0 h ∙ ap (λ (k : ℕ). get_or text i 0 ∷ drop k text) (sym (add-one i)) in
-    rw e (amid_more (rw d at a) (put_one out (at + i) (get_or text i 0)))
+pub puts_by : {was out : Out} {p : List ℕ} → Put out.at was.at was.bytes.now out.bytes.now p → out.bytes.ghost_name ≡ was.bytes.ghost_name → Puts was out p
+puts_by a e = record { put = a; same = e; long = put_length a }
 
-pub copy_end : (was out text : List ℕ) (at i : ℕ) → length text ≤ i → Amid (at + i) at was out (drop i text) text → Put (at + i) at was out text
-copy_end was out text at i h a = amid_end (rw (drop_of_length-le text h) at a)
+pub puts_none : (out : Out) → Puts out out []
+puts_none out = puts_by (put_none out.at out.bytes.now) refl
+
+pub puts_then : {was mid out : Out} {p q : List ℕ} → Puts was mid p → Puts mid out q → Puts was out (p ++ q)
+puts_then a b = puts_by (put_then a.put b.put) (b.same ∙ a.same)
+
+-- ---- a text copied over the part of the bytes where it is to stand
+
+pub over_is : (at k : ℕ) (was part text : List ℕ) → k ≡ length text → at + length text ≤ length was → part ≡ text → put_mid at k was part ≡ sets was at text
+over_is at k was part text e h p =
+    rw (p, e)
+    (ap (λ (l : List ℕ). take at was ++ (text ++ l)) (drop-drop (length text) at was)
+    ∙ sym (append_assoc (take at was) text (drop (at + length text) was))
+    ∙ sym (sets-eq text was at h))

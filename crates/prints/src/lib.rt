@@ -1,76 +1,78 @@
-// Text put into lent bytes from an offset on: words, numbers and strokes. Uses `lists`.
+// Text put into lent bytes, one piece after the other: words, numbers and strokes. Uses `lists`.
 #![tactic(auto)]
 
-ghost use Rattle.std.specs.Prelude.{◌≡◌, [], ◌∷◌, cond, ◌+◌, ◌≤◌, ◌<◌, length, get_or};
-ghost use Rattle.prints.specs.Text.{decimal, letters, dot, stroke_of};
-ghost use Rattle.prints.specs.Put.{Put, Labelled};
+ghost use Rattle.std.specs.Prelude.{◌≡◌, [], ◌∷◌, ◌++◌, cond, ◌+◌, ◌≤◌, ◌<◌, length};
+ghost use Rattle.prints.specs.Text.{decimal, dot, stroke_of};
 
 // The letter of each bit of a stroke, bit 0 first.
-const LETTERS: [u8; 23] = [
-    b'#', b'S', b'T', b'K', b'P', b'W', b'H', b'R', b'A', b'O', b'*', b'E', b'U', b'F', b'R', b'P',
-    b'B', b'L', b'G', b'T', b'S', b'D', b'Z',
-];
+const LETTERS: [u8; 23] = *b"#STKPWHRAO*EUFRPBLGTSDZ";
 
-fn put_byte(out: &mut [u8], at: usize, byte: u8) -> usize
-    requires { at < length out.old }
-    ensures { Put result at out.old out.new (byte ∷ []) }
+// The character of a key: its letter, or a dot where it is up.
+fn key_character(letter: u8, is_down: bool) -> u8
+    ensures { result ≡ cond is_down letter dot }
 {
-    out[at] = byte;
-    at + 1
+    if is_down { letter } else { b'.' }
 }
 
-pub fn put_text(out: &mut [u8], at: usize, text: &[u8]) -> usize
-    requires { at + length text.now ≤ length out.old }
-    ensures { Put result at out.old out.new text.now }
-{
-    let mut i = 0;
-    while i < text.len() {
-        out[at + i] = text[i];
-        i += 1;
+// Lent bytes, and the offset where the next byte goes.
+#[derive(Drop)]
+pub struct Out<'a> {
+    pub bytes: &'a mut [u8],
+    pub at: usize,
+    ghost within: { at ≤ length bytes.now },
+}
+
+impl Out<'_> {
+    ghost use Rattle.prints.specs.Put.{Puts};
+
+    fn put_byte(&mut self, byte: u8)
+        requires { self.old.at < length self.old.bytes.now }
+        ensures { Puts self.old self.new (byte ∷ []) }
+    {
+        self.bytes[self.at] = byte;
+        self.at += 1;
     }
-    at + i
-}
 
-// A number in decimal, with no zeros in front.
-fn put_number(out: &mut [u8], at: usize, n: u32) -> usize
-    requires { at + length (decimal n) ≤ length out.old }
-    ensures { Put result at out.old out.new (decimal n) }
-{
-    if n < 10 {
-        return put_byte(out, at, 48 + (n as u8));
+    pub fn put_text(&mut self, text: &[u8])
+        requires { self.old.at + length text.now ≤ length self.old.bytes.now }
+        ensures { Puts self.old self.new text.now }
+    {
+        let end = self.at + text.len();
+        self.bytes[self.at..end].copy_from_slice(text);
+        self.at = end;
     }
-    let next = put_number(out, at, n / 10);
-    put_byte(out, next, 48 + ((n % 10) as u8))
-}
 
-// A word, and a number after it.
-pub fn put_labelled(out: &mut [u8], at: usize, word: &[u8], n: u32) -> usize
-    requires { at + length word.now + 10 ≤ length out.old }
-    ensures { Labelled result at out.old out.new word.now n }
-{
-    let next = put_text(out, at, word);
-    put_number(out, next, n)
-}
-
-// The character of bit i of a stroke.
-fn key_character(i: usize, down: bool) -> u8
-    requires { i < 23 }
-    ensures { result ≡ cond down (get_or letters i 0) dot }
-{
-    if down { LETTERS[i] } else { b'.' }
-}
-
-// A stroke's 23 characters, bit 0 first.
-pub fn put_stroke(out: &mut [u8], at: usize, key: u32) -> usize
-    requires { at + 23 ≤ length out.old }
-    ensures { Put result at out.old out.new (stroke_of key) }
-{
-    let mut rest = key;
-    let mut i = 0;
-    while i < 23 {
-        out[at + i] = key_character(i, rest % 2 == 1);
-        rest /= 2;
-        i += 1;
+    // A number in decimal, with no zeros in front.
+    fn put_number(&mut self, n: u32)
+        requires { self.old.at + length (decimal n) ≤ length self.old.bytes.now }
+        ensures { Puts self.old self.new (decimal n) }
+    {
+        if n < 10 {
+            return self.put_byte(b'0' + n as u8);
+        }
+        self.put_number(n / 10);
+        self.put_byte(b'0' + (n % 10) as u8);
     }
-    at + i
+
+    // A word, and a number after it.
+    pub fn put_labelled(&mut self, word: &[u8], n: u32)
+        requires { self.old.at + length word.now + 10 ≤ length self.old.bytes.now }
+        ensures put { Puts self.old self.new (word.now ++ decimal n) }
+        ensures within { self.new.at ≤ self.old.at + length word.now + 10 }
+    {
+        self.put_text(word);
+        self.put_number(n);
+    }
+
+    // A stroke's 23 characters, bit 0 first.
+    pub fn put_stroke(&mut self, key: u32)
+        requires { self.old.at + 23 ≤ length self.old.bytes.now }
+        ensures { Puts self.old self.new (stroke_of key) }
+    {
+        let mut rest = key;
+        for letter in LETTERS {
+            self.put_byte(key_character(letter, rest % 2 == 1));
+            rest /= 2;
+        }
+    }
 }

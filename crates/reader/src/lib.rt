@@ -2,41 +2,55 @@
 // Uses `job_records`.
 #![tactic(auto)]
 
-ghost use Rattle.std.specs.Prelude.{◌≡◌};
+ghost use Rattle.std.specs.Prelude.{◌≡◌, ◌-◌, length};
+ghost use Rattle.std.specs.Iterator.{at_most};
 ghost use Rattle.job_records.specs.Records.{record_at};
+ghost use Rattle.reader.specs.Finds.{Finds};
 
-use job_records::{Taken, record_at};
+use job_records::{Record, Taken, record_at};
 
 #[derive(Clone, Copy)]
-struct Reader<'a> {
-    job: &'a [u8],
-    at: usize,
+pub struct Reader<'a> {
+    pub job: &'a [u8],
+    pub at: usize,
 }
 
-fn new<'a>(job: &'a [u8]) -> Reader<'a>
-    ensures { (result.job ≡ job.entry) × (result.at ≡ 0) }
-{
-    Reader { job, at: 0 }
+impl<'a> Reader<'a> {
+    // A reader at the first byte.
+    pub fn new(job: &'a [u8]) -> Self
+        ensures { (result.job ≡ job.entry) × (result.at ≡ 0) }
+    {
+        Reader { job, at: 0 }
+    }
+
+    // The same bytes, at another place.
+    fn moved(self, at: usize) -> Self
+        ensures { (result.job ≡ self.entry.job) × (result.at ≡ at) }
+    {
+        Reader { at, ..self }
+    }
+
+    // What stands at the reader's place, and the offset after it.
+    pub fn peek(self) -> Option<Taken>
+        ensures { result ≡ record_at self.entry.job.now self.entry.at }
+    {
+        record_at(self.job, self.at)
+    }
 }
 
-// The same bytes, at another place.
-fn moved<'a>(r: Reader<'a>, at: usize) -> Reader<'a>
-    ensures { (result.job ≡ r.entry.job) × (result.at ≡ at) }
-{
-    Reader { job: r.job, at }
-}
+// The records of the job from the reader's place on, each with its offset, up to the first that is missing, cut short or of no kind.
+impl Iterator for Reader<'_> {
+    type Item = (usize, Record);
 
-// What stands at the reader's place, and the offset after it.
-fn next<'a>(r: Reader<'a>) -> Taken
-    ensures { result ≡ record_at r.entry.job.now r.entry.at }
-{
-    record_at(r.job, r.at)
-}
+    ghost next_gives = { Finds };
 
-// What a reader of these bytes finds at an offset.
-pub fn take(job: &[u8], at: usize) -> Taken
-    ensures { result ≡ record_at job.now at }
-{
-    let r = moved(new(job), at);
-    next(r)
+    ghost remaining = { λ r. at_most (length r.job.now - r.at) };
+
+    #[tactic(auto, using(job_records::proofs::Whole::goes_on_lem))]
+    fn next(&mut self) -> Option<(usize, Record)> {
+        let at = self.at;
+        let taken = self.peek()?;
+        *self = self.moved(taken.next);
+        Some((at, taken.item))
+    }
 }

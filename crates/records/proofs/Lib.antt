@@ -1,1 +1,1 @@
-mod Coded
+mod Stored

@@ -14,7 +14,7 @@ as_words w =
       ending = w.ending;
       picks = w.picks;
       places = w.places;
-      free_row = w.freerow;
-      free_column = w.freecolumn;
+      free_row = w.free_row;
+      free_column = w.free_column;
       seen = w.seen;
     }

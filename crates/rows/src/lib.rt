@@ -3,34 +3,30 @@
 #![tactic(auto)]
 
 ghost use Rattle.std.specs.Prelude.{◌≡◌};
-ghost use Rattle.places.specs.Table.{Fits, lock_of};
+ghost use Rattle.places.specs.Table.{lock_of};
 ghost use Rattle.paths.specs.Path.{other_row};
 ghost use Rattle.machine.specs.Steps.{mode_of, row_on, shared_rows, swing_rows, drops_two, sought_row};
 
 use locks::Mode;
-use machine::{Found, Op, Outcome, Side, Walk};
-use paths::{Place, other_row};
-use places::{RowPair, Sizes, lock_of, lock_order, rows_of};
+use machine::{Op, Outcome, Side, Walk};
+use paths::Place;
+use places::{Layout, RowPair};
 
 // What an operation takes its rows for.
 pub fn mode_of(op: Op) -> Mode
     ensures { result ≡ mode_of op }
 {
     match op {
-        Op::NoOp => Mode::Writing,
         Op::Read => Mode::Reading,
-        Op::Delete => Mode::Writing,
-        Op::Insert => Mode::Writing,
-        Op::Again => Mode::Writing,
+        _ => Mode::Writing,
     }
 }
 
 // A home row of a key, in locking order.
-pub fn row_on(z: Sizes, key: u32, side: Side) -> u32
-    requires { Fits z }
-    ensures { result ≡ row_on z key side }
+pub fn row_on(z: Layout, key: u32, side: Side) -> u32
+    ensures { result ≡ row_on z.sizes key side }
 {
-    let rows = rows_of(z, key);
+    let rows = z.rows_of(key);
     match side {
         Side::First => rows.first,
         Side::Second => rows.second,
@@ -38,19 +34,17 @@ pub fn row_on(z: Sizes, key: u32, side: Side) -> u32
 }
 
 // Its lock.
-pub fn row_lock(z: Sizes, key: u32, side: Side) -> u32
-    requires { Fits z }
-    ensures { result ≡ lock_of z (row_on z key side) }
+pub fn row_lock(z: Layout, key: u32, side: Side) -> u32
+    ensures { result ≡ lock_of z.sizes (row_on z.sizes key side) }
 {
-    lock_of(z, row_on(z, key, side))
+    z.lock_of(row_on(z, key, side))
 }
 
 // The home rows of a key have one lock.
-pub fn shared_rows(z: Sizes, key: u32) -> bool
-    requires { Fits z }
-    ensures { result ≡ shared_rows z key }
+pub fn shared_rows(z: Layout, key: u32) -> bool
+    ensures { result ≡ shared_rows z.sizes key }
 {
-    rows_of(z, key).shared
+    z.rows_of(key).shared
 }
 
 // After its first release a pass has still to release the second row's lock.
@@ -58,70 +52,50 @@ pub fn drops_two(shared: bool, o: Outcome) -> bool
     ensures { result ≡ drops_two shared o }
 {
     match o {
-        Outcome::Hit(side, column, value) => drops_side(shared, side),
-        Outcome::Wrote(side) => drops_side(shared, side),
-        Outcome::Filled => !shared,
-        Outcome::Miss => !shared,
-        Outcome::Picked => !shared,
-        Outcome::Stuck => !shared,
-    }
-}
-
-// The same of a hit on that side.
-fn drops_side(shared: bool, side: Side) -> bool
-    ensures { result ≡ drops_two shared (Outcome.Wrote side) }
-{
-    match side {
-        Side::First => false,
-        Side::Second => !shared,
+        Outcome::Hit(Side::First, ..) | Outcome::Wrote(Side::First) => false,
+        _ => !shared,
     }
 }
 
 // The lock of the other row of the last place's key.
-pub fn other_lock(z: Sizes, last: Place) -> u32
-    requires { Fits z }
-    ensures { result ≡ lock_of z (other_row z last) }
+pub fn other_lock(z: Layout, last: Place) -> u32
+    ensures { result ≡ lock_of z.sizes (other_row z.sizes last) }
 {
-    lock_of(z, other_row(z, last))
+    z.lock_of(last.other_row(z))
 }
 
-// The row that an attempt of the search has looked through.
-pub fn sought_row(z: Sizes, last: Place, f: Found) -> u32
-    requires { Fits z }
-    ensures { result ≡ sought_row z last f }
+// The row that an attempt of the search has looked through, by what it found.
+pub fn sought_row(z: Layout, last: Place, found: Option<u32>) -> u32
+    ensures { result ≡ sought_row z.sizes last found }
 {
-    match f {
-        Found::Room(_) => other_row(z, last),
-        Found::Full => last.row,
+    match found {
+        Some(_) => last.other_row(z),
+        None => last.row,
     }
 }
 
 // Its lock.
-pub fn sought_lock(z: Sizes, last: Place, f: Found) -> u32
-    requires { Fits z }
-    ensures { result ≡ lock_of z (sought_row z last f) }
+pub fn sought_lock(z: Layout, last: Place, found: Option<u32>) -> u32
+    ensures { result ≡ lock_of z.sizes (sought_row z.sizes last found) }
 {
-    lock_of(z, sought_row(z, last, f))
+    z.lock_of(sought_row(z, last, found))
 }
 
 // The rows of a swing in locking order.
-pub fn swing_rows(z: Sizes, last: Place, w: Walk) -> RowPair
-    requires { Fits z }
-    ensures { result ≡ swing_rows z last w }
+pub fn swing_rows(z: Layout, last: Place, w: Walk) -> RowPair
+    ensures { result ≡ swing_rows z.sizes last w }
 {
-    lock_order(z, last.row, w.row)
+    z.lock_order(last.row, w.row)
 }
 
-pub fn low_lock(z: Sizes, last: Place, w: Walk) -> u32
-    requires { Fits z }
-    ensures { result ≡ lock_of z (swing_rows z last w).first }
+pub fn low_lock(z: Layout, last: Place, w: Walk) -> u32
+    ensures { result ≡ lock_of z.sizes (swing_rows z.sizes last w).first }
 {
-    lock_of(z, swing_rows(z, last, w).first)
+    z.lock_of(swing_rows(z, last, w).first)
 }
 
-pub fn high_lock(z: Sizes, last: Place, w: Walk) -> u32
-    requires { Fits z }
-    ensures { result ≡ lock_of z (swing_rows z last w).second }
+pub fn high_lock(z: Layout, last: Place, w: Walk) -> u32
+    ensures { result ≡ lock_of z.sizes (swing_rows z.sizes last w).second }
 {
-    lock_of(z, swing_rows(z, last, w).second)
+    z.lock_of(swing_rows(z, last, w).second)
 }

@@ -3,7 +3,6 @@
 use mathlib.Core.Path.{◌≡◌, ◌∙◌, ap, sym}
 use mathlib.Core.List.{List}
 use Prim.Native.Nat.{ℕ, ◌+◌, ◌-◌, ◌*◌, ◌≤◌, ◌<◌}
-use native.Mathlib.Nat.{mul-le-mul_left}
 use native.Mathlib.Omega.{arith}
 use lib.ListN.{length, get_or-eq_default}
 use borrow.Author.Tests.{ne_eqb}
@@ -19,10 +18,6 @@ use Rattle.machine.specs.Steps.{path_length}
 cell_past : (xs : List ℕ) (n i f : ℕ) → length xs ≡ n * 3 → n ≤ i → cell 3 xs i f ≡ 0
 unfolding cell
 cell_past xs n i f e l = get_or-eq_default xs 0 (omega arith)
-
--- an index made of any two numbers of 32 bits fits
-pub index_fits : (row columns : ℕ) → columns ≤ 8 → row * columns ≤ row * 8
-index_fits row columns l = mul-le-mul_left row l
 
 pub slot_past : (z : Sizes) (xs : List ℕ) (row column n : ℕ) → length xs ≡ slot_count z * 3 → n ≡ slot_count z → n ≤ row * z.columns + column → empty_slot ≡ slot_at xs (slot_index z row column)
 unfolding slot_at slot_index
@@ -47,6 +42,3 @@ module _ (z : Sizes) (ps : List ℕ) (e : length ps ≡ path_places z * 3) where
   -- the last of more places than there are
   pub last_past : (s : Stage) (n : ℕ) (p : Place) → n ≡ path_length s → z.rows + 2 < n → p ≡ no_place → p ≡ last_of ps (path_length s)
   last_past s n p en l ep = last_few n p l ep ∙ ap (last_of ps) en
-
-pub last_named : (ps : List ℕ) (s : Stage) (n : ℕ) (p : Place) → n ≡ path_length s → p ≡ last_of ps n → p ≡ last_of ps (path_length s)
-last_named ps s n p en ep = ep ∙ ap (last_of ps) en

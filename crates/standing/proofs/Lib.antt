@@ -1,4 +1,3 @@
 mod Beyond
-mod Turns
+mod Counting
 mod Shared
-mod Whole

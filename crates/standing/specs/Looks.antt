@@ -1,21 +1,12 @@
 -- 01, "Standing check": what each of its loops tests or adds up, by the number that the loop counts.
 -- Assumes nothing.
-use Rattle.std.specs.Prelude.{ℕ, List, Bool, not, ◌||◌, ltb}
+use Rattle.std.specs.Prelude.{ℕ, List, ◌≡◌, Bool, ◌||◌, ltb}
 use Rattle.places.specs.declared.Sizes.{Sizes}
-use Rattle.places.specs.Table.{slot_index}
-use Rattle.slots.specs.Slot.{slot_at, is_full, holds}
+use Rattle.slots.specs.declared.Slot.{Slot}
 use Rattle.paths.specs.Path.{place_at}
 use Rattle.machine.specs.Lane.{lane_at}
 use Rattle.machine.specs.Steps.{path_length}
 use Rattle.machine.specs.Standing.{place_stands, unused}
-
--- "columns passed seeking its key lack it"
-unfoldable pub lacks_at : Sizes → List ℕ → ℕ → ℕ → ℕ → Bool
-lacks_at z xs key row i = not (holds (slot_at xs (slot_index z row i)) key)
-
--- "those passed seeking an empty slot are full"
-unfoldable pub full_at : Sizes → List ℕ → ℕ → ℕ → Bool
-full_at z xs row i = is_full (slot_at xs (slot_index z row i))
 
 -- "path places are in range"
 unfoldable pub placed_at : Sizes → List ℕ → ℕ → Bool
@@ -32,3 +23,7 @@ length_at vs j = path_length (lane_at vs j).stage
 -- what the path lengths of eight lanes add up to at most, each a number of 32 bits
 abbrev pub most_used : ℕ
 most_used = 34359738360
+
+-- "columns passed seeking its key lack it, those passed seeking an empty slot are full": a function of the code tests slots by p: each answer that it may give of a slot is p of that slot
+abbrev pub Tests : (Slot → Bool → Type 0) → (Slot → Bool) → Type 0
+Tests Answers p = (s : Slot) (b : Bool) → Answers s b → b ≡ p s

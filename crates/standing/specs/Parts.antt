@@ -1,6 +1,6 @@
 -- 01, "Standing check": what the lanes add to a lock, by the four measures of parts at once, as the code keeps them.
 -- Assumes nothing.
-use Rattle.std.specs.Prelude.{ℕ, ◌+◌, ◌≤◌, List}
+use Rattle.std.specs.Prelude.{ℕ, List}
 use Rattle.lists.specs.Below.{sum_below}
 use Rattle.places.specs.declared.Sizes.{Sizes}
 use Rattle.locks.specs.declared.Part.{Part}
@@ -10,7 +10,7 @@ use Rattle.machine.specs.declared.Grip.{Grip}
 use Rattle.machine.specs.Lane.{lane_at}
 use Rattle.machine.specs.Steps.{path_length}
 use Rattle.machine.specs.Claims.{grip_of, share}
-use Rattle.holds.specs.declared.held.Shares.{Shares}
+use Rattle.holds.specs.declared.shares.Shares.{Shares}
 use Rattle.holds.specs.Shares.{shares_of}
 
 -- "each lane holds the locks its place calls for": the part of lane j in the locks
@@ -34,14 +34,3 @@ shares_to z vs ps k n =
       writes = parts_to z vs ps k part_writes n;
       reads = parts_to z vs ps k part_reads n;
     }
-
--- one sum over lanes and what one lane more adds, by all four
-abbrev pub added : Shares → Shares → Shares
-added s t = record { flag = s.flag + t.flag; count = s.count + t.count; writes = s.writes + t.writes; reads = s.reads + t.reads }
-
--- each of the four is at most n
-pub record AtMost (n : ℕ) (s : Shares) : Type 0 where
-  pub flag : s.flag ≤ n
-  pub count : s.count ≤ n
-  pub writes : s.writes ≤ n
-  pub reads : s.reads ≤ n

@@ -7,86 +7,58 @@ mod counts;
 mod reads;
 mod route;
 
-ghost use Rattle.std.specs.Prelude.{◌≡◌, ◌+◌, ◌*◌, length};
+ghost use Rattle.std.specs.Prelude.{◌≡◌, ◌+◌};
 ghost use Rattle.lists.specs.Below.{all_below};
-ghost use Rattle.places.specs.Table.{Fits, slot_count};
 ghost use Rattle.slots.specs.Sound.{sound};
-ghost use Rattle.paths.specs.Path.{path_places};
-ghost use Rattle.machine.specs.Lane.{lane_numbers};
 ghost use Rattle.machine.specs.Standing.{lane_stands, lock_stands, standing};
 ghost use Rattle.standing.specs.Tables.{table};
 ghost use Rattle.standing.specs.Partial.{lanes_table, locks_table, Lengths};
 
-use claims::lane_stands;
-use counts::lock_stands;
-use places::Sizes;
-use route::path_stands;
-use slots::{Checked, check};
+use places::Layout;
+use slots::Slots;
 
-// The slots are sound.
-fn slots_sound(z: Sizes, slots: &[u32]) -> bool
-    requires fits { Fits z }
-    requires slots_len { length slots.now ≡ slot_count z * 3 }
-    ensures { result ≡ sound z slots.now }
-{
-    let found = check(z, slots);
-    match found {
-        Checked::Sound => true,
-        Checked::Misshapen(_) => false,
-        Checked::Astray(_) => false,
-        Checked::Twice(_) => false,
-    }
+// The numbers of a table, lent to be read: each list is as long as the sizes need.
+#[derive(Clone, Copy)]
+pub struct Lent<'a> {
+    pub z: Layout,
+    pub slots: &'a [u32],
+    pub locks: &'a [u32],
+    pub lanes: &'a [u32],
+    pub path: &'a [u32],
+    ghost exact: { Lengths z.sizes slots.now locks.now lanes.now path.now },
 }
 
-// Every lane stands.
-fn lanes_stand(z: Sizes, slots: &[u32], lanes: &[u32], path: &[u32]) -> bool
-    requires fits { Fits z }
-    requires slots_len { length slots.now ≡ slot_count z * 3 }
-    requires lanes_len { length lanes.now ≡ z.lanes * lane_numbers }
-    requires path_len { length path.now ≡ path_places z * 3 }
-    ensures { result ≡ all_below z.lanes (lane_stands z (lanes_table slots.now lanes.now path.now)) }
-{
-    let n = z.lanes as usize;
-    let mut j = 0;
-    while j < n {
-        if !lane_stands(z, slots, lanes, path, j) {
-            return false;
-        }
-        j += 1;
+impl Lent<'_> {
+    // The slots are sound.
+    fn slots_sound(self) -> bool
+        ensures { result ≡ sound self.entry.z.sizes self.entry.slots.now }
+    {
+        let slots = Slots {
+            z: self.z,
+            numbers: self.slots,
+        };
+        slots.check().is_ok()
     }
-    true
-}
 
-// Every lock stands, main too.
-fn locks_stand(z: Sizes, locks: &[u32], lanes: &[u32], path: &[u32]) -> bool
-    requires fits { Fits z }
-    requires locks_len { length locks.now ≡ (z.locks + 1) * 2 }
-    requires lanes_len { length lanes.now ≡ z.lanes * lane_numbers }
-    requires path_len { length path.now ≡ path_places z * 3 }
-    ensures { result ≡ all_below (z.locks + 1) (lock_stands z (locks_table locks.now lanes.now path.now)) }
-{
-    let n = z.locks + 1;
-    let mut k = 0;
-    while k < n {
-        if !lock_stands(z, locks, lanes, path, k) {
-            return false;
-        }
-        k += 1;
+    // Every lane stands.
+    fn lanes_stand(self) -> bool
+        ensures { result ≡ all_below self.entry.z.sizes.lanes (lane_stands self.entry.z.sizes (lanes_table self.entry.slots.now self.entry.lanes.now self.entry.path.now)) }
+    {
+        (0..self.z.sizes.lanes as usize).all(|j| self.lane_stands(j))
     }
-    true
-}
 
-// The standing check. The lanes are tested before the path and the locks: their numbers are then in range, and the loops over the path short.
-pub fn stands(z: Sizes, slots: &[u32], locks: &[u32], lanes: &[u32], path: &[u32]) -> bool
-    requires fits { Fits z }
-    requires lengths { Lengths z slots.now locks.now lanes.now path.now }
-    ensures { result ≡ standing z (table slots.now locks.now lanes.now path.now) }
-{
-    if !slots_sound(z, slots) {
-        return false;
+    // Every lock stands, main too.
+    fn locks_stand(self) -> bool
+        ensures { result ≡ all_below (self.entry.z.sizes.locks + 1) (lock_stands self.entry.z.sizes (locks_table self.entry.locks.now self.entry.lanes.now self.entry.path.now)) }
+    {
+        (0..self.z.sizes.locks + 1).all(|k| self.lock_stands(k))
     }
-    if !lanes_stand(z, slots, lanes, path) {
-        return false;
+
+    // The standing check. The lanes are tested before the path and the locks: their numbers are then in range, and the loops over the path short.
+    #[tactic(auto, unfolding(machine::specs::Standing::standing, machine::specs::Standing::lane_stands, machine::specs::Standing::path_stands, machine::specs::Standing::lock_stands))]
+    pub fn stands(self) -> bool
+        ensures { result ≡ standing self.entry.z.sizes (table self.entry.slots.now self.entry.locks.now self.entry.lanes.now self.entry.path.now) }
+    {
+        self.slots_sound() && self.lanes_stand() && self.path_stands() && self.locks_stand()
     }
-    path_stands(z, lanes, path) & locks_stand(z, locks, lanes, path)
 }

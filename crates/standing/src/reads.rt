@@ -1,58 +1,68 @@
 // Reads of the lent numbers by what a record says: zeros where it points past their end.
-ghost use Rattle.std.specs.Prelude.{◌≡◌, ◌*◌, length};
-ghost use Rattle.places.specs.Table.{Fits, slot_index, slot_count};
+ghost use Rattle.std.specs.Prelude.{◌≡◌, ◌<◌};
+ghost use Rattle.places.specs.Table.{slot_index};
 ghost use Rattle.slots.specs.Slot.{slot_at};
-ghost use Rattle.paths.specs.Path.{path_places, place_at, last_of};
+ghost use Rattle.paths.specs.Path.{place_at, last_of};
+ghost use Rattle.machine.specs.Lane.{lane_at};
 ghost use Rattle.machine.specs.Steps.{path_length};
 
+use super::Lent;
 use acts::path_length;
+use holds::Seat;
 use machine::Lane;
-use paths::{Place, last_of, no_place, place_at};
-use places::{Sizes, slot_count};
+use paths::{Place, last_of, place_at};
+use records::lane_at;
 use slots::{Slot, slot_at};
 
-// The slot of a row and column.
-pub fn slot_of(z: Sizes, slots: &[u32], row: u32, column: u32) -> Slot
-    requires fits { Fits z }
-    requires slots_len { length slots.now ≡ slot_count z * 3 }
-    ensures { result ≡ slot_at slots.now (slot_index z row column) }
-{
-    let i = (row as usize) * (z.columns as usize) + (column as usize);
-    if i < slot_count(z) {
-        slot_at(slots, i)
-    } else {
-        Slot {
-            mark: 0,
-            key: 0,
-            value: 0,
+impl Lent<'_> {
+    // The slot of a row and column.
+    #[tactic(auto, using(crate::proofs::Beyond::slot_past), unfolding(places::specs::Table::slot_index))]
+    pub(crate) fn slot_of(self, row: u32, column: u32) -> Slot
+        ensures { result ≡ slot_at self.entry.slots.now (slot_index self.entry.z.sizes row column) }
+    {
+        let i = (row as usize) * (self.z.sizes.columns as usize) + (column as usize);
+        if i < self.z.slot_count() {
+            slot_at(self.slots, i)
+        } else {
+            Slot::empty()
         }
     }
-}
 
-// Place i of the path store.
-pub fn place_of(z: Sizes, path: &[u32], i: usize) -> Place
-    requires fits { Fits z }
-    requires path_len { length path.now ≡ path_places z * 3 }
-    ensures { result ≡ place_at path.now i }
-{
-    if i < (z.rows as usize) + 2 {
-        place_at(path, i)
-    } else {
-        no_place()
+    // Place i of the path store.
+    pub(crate) fn place_of(self, i: usize) -> Place
+        ensures { result ≡ place_at self.entry.path.now i }
+    {
+        if i < (self.z.sizes.rows as usize) + 2 {
+            place_at(self.path, i)
+        } else {
+            Place::none()
+        }
     }
-}
 
-// The last place on a lane's path.
-pub fn last_place(z: Sizes, path: &[u32], l: Lane) -> Place
-    requires fits { Fits z }
-    requires path_len { length path.now ≡ path_places z * 3 }
-    ensures { result ≡ last_of path.now (path_length l.stage) }
-{
-    let stage = l.stage;
-    let n = path_length(stage);
-    if n <= z.rows + 2 {
-        last_of(path, n)
-    } else {
-        no_place()
+    // Lane j, and the last place on its path.
+    pub(crate) fn seat(self, j: usize) -> Seat
+        requires { j < self.z.sizes.lanes }
+        ensures table { result.z.sizes ≡ self.entry.z.sizes }
+        ensures lane { result.lane ≡ lane_at self.entry.lanes.now j }
+        ensures last { result.last ≡ last_of self.entry.path.now (path_length (lane_at self.entry.lanes.now j).stage) }
+    {
+        let lane = lane_at(self.lanes, j);
+        Seat {
+            z: self.z,
+            lane,
+            last: self.last_place(lane),
+        }
+    }
+
+    // The last place on a lane's path.
+    fn last_place(self, lane: Lane) -> Place
+        ensures { result ≡ last_of self.entry.path.now (path_length lane.stage) }
+    {
+        let n = path_length(lane.stage);
+        if n <= self.z.sizes.rows + 2 {
+            last_of(self.path, n)
+        } else {
+            Place::none()
+        }
     }
 }

@@ -1,127 +1,87 @@
 // The path stands: its places are in range and linked, and unused ones are zeros.
-ghost use Rattle.std.specs.Prelude.{◌≡◌, ◌+◌, ◌-◌, ◌*◌, ◌<◌, ◌≤◌, length};
+ghost use Rattle.std.specs.Prelude.{◌≡◌, ◌-◌, ◌<◌, ◌≤◌};
 ghost use Rattle.lists.specs.Below.{sum_below, all_below};
-ghost use Rattle.places.specs.Table.{Fits};
 ghost use Rattle.paths.specs.Path.{path_places};
-ghost use Rattle.machine.specs.Lane.{lane_numbers};
-ghost use Rattle.machine.specs.Standing.{place_stands, path_stands};
-ghost use Rattle.machine.specs.Standing.{linked as Standing·linked, unused as Standing·unused};
+ghost use Rattle.machine.specs.Standing.{place_stands, path_stands, linked, unused};
 ghost use Rattle.standing.specs.Partial.{path_table};
 ghost use Rattle.standing.specs.Looks.{placed_at, cleared_at, length_at, most_used};
 
-use super::reads::place_of;
+use super::Lent;
 use acts::path_length;
-use paths::{Place, other_row};
-use places::{MAX_KEY, Sizes, home_one, home_two};
+use paths::Place;
+use places::MAX_KEY;
 use records::lane_at;
 
-// How many places are on the path.
-fn path_used(z: Sizes, lanes: &[u32]) -> usize
-    requires fits { Fits z }
-    requires lanes_len { length lanes.now ≡ z.lanes * lane_numbers }
-    ensures value { result ≡ sum_below z.lanes (length_at lanes.now) }
-    ensures upper_bound { result ≤ most_used }
-{
-    let n = z.lanes as usize;
-    let mut used = 0;
-    let mut j = 0;
-    while j < n {
-        let l = lane_at(lanes, j);
-        let stage = l.stage;
-        used += path_length(stage) as usize;
-        j += 1;
-    }
-    used
-}
-
-// A place is in range and in a home row of its key.
-fn place_stands(z: Sizes, p: Place) -> bool
-    requires { Fits z }
-    ensures { result ≡ place_stands z p }
-{
-    (p.row < z.rows)
-        & ((p.column < z.columns)
-            & ((p.key <= MAX_KEY)
-                & ((p.row == home_one(z, p.key)) | (p.row == home_two(z, p.key)))))
-}
-
-// The place after place i is in the other row of its key.
-fn linked(z: Sizes, path: &[u32], i: usize) -> bool
-    requires fits { Fits z }
-    requires path_len { length path.now ≡ path_places z * 3 }
-    requires i_lt_most_used { i < most_used }
-    ensures { result ≡ Standing·linked z path.now i }
-{
-    let next = place_of(z, path, i + 1);
-    next.row == other_row(z, place_of(z, path, i))
-}
-
-// Place i is zeros.
-fn unused(z: Sizes, path: &[u32], i: usize) -> bool
-    requires fits { Fits z }
-    requires path_len { length path.now ≡ path_places z * 3 }
-    ensures { result ≡ Standing·unused path.now i }
-{
-    let p = place_of(z, path, i);
-    (p.row == 0) & ((p.column == 0) & (p.key == 0))
-}
-
-// The used places stand.
-fn places_stand(z: Sizes, path: &[u32], used: usize) -> bool
-    requires fits { Fits z }
-    requires path_len { length path.now ≡ path_places z * 3 }
-    ensures { result ≡ all_below used (placed_at z path.now) }
-{
-    let mut i = 0;
-    while i < used {
-        if !place_stands(z, place_of(z, path, i)) {
-            return false;
+impl Lent<'_> {
+    // How many places are on the path.
+    fn path_used(self) -> usize
+        ensures value { result ≡ sum_below self.entry.z.sizes.lanes (length_at self.entry.lanes.now) }
+        ensures upper_bound { result ≤ most_used }
+    {
+        let mut used = 0;
+        for j in 0..self.z.sizes.lanes as usize {
+            used += path_length(lane_at(self.lanes, j).stage) as usize;
         }
-        i += 1;
+        used
     }
-    true
-}
 
-// Each used place but the last is linked to the next.
-fn links_stand(z: Sizes, path: &[u32], used: usize) -> bool
-    requires fits { Fits z }
-    requires path_len { length path.now ≡ path_places z * 3 }
-    requires used_le_most_used { used ≤ most_used }
-    ensures { result ≡ all_below (used - 1) (Standing·linked z path.now) }
-{
-    let mut i = 0;
-    while i + 1 < used {
-        if !linked(z, path, i) {
-            return false;
-        }
-        i += 1;
+    // A place is in range and in a home row of its key.
+    #[tactic(auto, unfolding(machine::specs::Standing::place_stands))]
+    fn place_stands(self, p: Place) -> bool
+        ensures { result ≡ place_stands self.entry.z.sizes p }
+    {
+        p.row < self.z.sizes.rows
+            && p.column < self.z.sizes.columns
+            && p.key <= MAX_KEY
+            && (p.row == self.z.home_one(p.key) || p.row == self.z.home_two(p.key))
     }
-    true
-}
 
-// The places past the used ones are zeros.
-fn rest_unused(z: Sizes, path: &[u32], used: usize) -> bool
-    requires fits { Fits z }
-    requires path_len { length path.now ≡ path_places z * 3 }
-    ensures { result ≡ all_below (path_places z) (cleared_at path.now used) }
-{
-    let n = (z.rows as usize) + 2;
-    let mut i = 0;
-    while i < n {
-        if !((i < used) | unused(z, path, i)) {
-            return false;
-        }
-        i += 1;
+    // The place after place i is in the other row of its key.
+    #[tactic(auto, unfolding(machine::specs::Standing::linked))]
+    fn linked(self, i: usize) -> bool
+        requires { i < most_used }
+        ensures { result ≡ linked self.entry.z.sizes self.entry.path.now i }
+    {
+        let next = self.place_of(i + 1);
+        next.row == self.place_of(i).other_row(self.z)
     }
-    true
-}
 
-pub fn path_stands(z: Sizes, lanes: &[u32], path: &[u32]) -> bool
-    requires fits { Fits z }
-    requires lanes_len { length lanes.now ≡ z.lanes * lane_numbers }
-    requires path_len { length path.now ≡ path_places z * 3 }
-    ensures { result ≡ path_stands z (path_table lanes.now path.now) }
-{
-    let used = path_used(z, lanes);
-    places_stand(z, path, used) & (links_stand(z, path, used) & rest_unused(z, path, used))
+    // Place i is zeros.
+    #[tactic(auto, unfolding(machine::specs::Standing::unused))]
+    fn unused(self, i: usize) -> bool
+        ensures { result ≡ unused self.entry.path.now i }
+    {
+        let p = self.place_of(i);
+        (p.row, p.column, p.key) == (0, 0, 0)
+    }
+
+    // The used places stand.
+    fn places_stand(self, used: usize) -> bool
+        ensures { result ≡ all_below used (placed_at self.entry.z.sizes self.entry.path.now) }
+    {
+        (0..used).all(|i| self.place_stands(self.place_of(i)))
+    }
+
+    // Each used place but the last is linked to the next.
+    fn links_stand(self, used: usize) -> bool
+        requires { used ≤ most_used }
+        ensures { result ≡ all_below (used - 1) (linked self.entry.z.sizes self.entry.path.now) }
+    {
+        (0..used.saturating_sub(1)).all(|i| self.linked(i))
+    }
+
+    // The places past the used ones are zeros.
+    fn rest_unused(self, used: usize) -> bool
+        ensures { result ≡ all_below (path_places self.entry.z.sizes) (cleared_at self.entry.path.now used) }
+    {
+        (0..self.z.sizes.rows as usize + 2).all(|i| i < used || self.unused(i))
+    }
+
+    #[tactic(auto, unfolding(machine::specs::Standing::path_stands, crate::specs::Looks::length_at, crate::specs::Looks::placed_at, crate::specs::Looks::cleared_at))]
+    pub(crate) fn path_stands(self) -> bool
+        ensures { result ≡ path_stands self.entry.z.sizes (path_table self.entry.lanes.now self.entry.path.now) }
+    {
+        let used = self.path_used();
+        self.places_stand(used) && self.links_stand(used) && self.rest_unused(used)
+    }
 }

@@ -1,10 +1,7 @@
--- `sg_open` is the desk's opening, read through its numbers.
+-- `sg_open` names a slot's index only where it fits.
 -- Assumes nothing.
-use Rattle.exports.proofs.Doors.{door_low, door_opens}
+use Rattle.exports.proofs.Doors.{opening_index}
 use Rattle.exports.proofs.sg_open.Goals as goal
 
 pub opened_of-requires : goal.opened_of-requires
-opened_of-requires c = search door_low
-
-pub returns : goal.returns
-returns c = door_opens _ _ _ _ _ c.sizes_of-z.ensures _ _ c.open.result _ c.open.ensures c.opened_of.ensures
+opened_of-requires c = rw c.open.ensures.answer (opening_index _ _)

@@ -1,27 +1,22 @@
--- `run` puts what the job prints, by its length and its first record; a print has room in the bytes that are lent.
+-- `run` puts what the job prints, by its length, and then its last line; a print has room in the bytes that are lent.
 -- Assumes nothing.
+use mathlib.Core.Path.{refl, ap}
 use native.Mathlib.Omega.{arith}
-use Rattle.jobs.proofs.Room.{printed}
-use Rattle.jobs.proofs.Begins.{too_long, first_sizes, first_start, first_step, first_end, first_bad, long_enough, in_job}
+use Rattle.jobs.proofs.Begins.{last_room_lem, whole_print, long_print, short_said}
+use Rattle.jobs.proofs.run.Goals.{then-job-gt-MAX_BYTES as long, else-job-gt-MAX_BYTES as short}
 use Rattle.jobs.proofs.run.Goals as goal
 
-pub returns-then-job-gt-MAX_BYTES : goal.returns-then-job-gt-MAX_BYTES
-returns-then-job-gt-MAX_BYTES c = printed _ (omega arith) (search too_long)
+pub put_last-requires : goal.put_last-requires
+put_last-requires c = elim c.if-job-gt-MAX_BYTES.branch [
+  | long w ↦ rw w.print-is (omega arith)
+  | short w ↦ rw w.print-is (last_room_lem c.args.job.now (short_said c.args.job.now w.if-job-gt-MAX_BYTES.false w.run_sizes-done.ensures) refl (omega arith))
+]
 
-pub run_sizes-requires : goal.run_sizes-requires
-run_sizes-requires c = record { le_from = search long_enough; from_in_bounds = search in_job; job_len_bound = omega arith; out_bytes_in_bounds = omega arith }
-
-pub returns-in-Opens : goal.returns-in-Opens
-returns-in-Opens c = printed _ (omega arith) (search first_sizes)
-
-pub returns-in-Starts : goal.returns-in-Starts
-returns-in-Starts c = printed _ (omega arith) (search first_start)
-
-pub returns-in-Steps : goal.returns-in-Steps
-returns-in-Steps c = printed _ (omega arith) (search first_step)
-
-pub returns-in-Ends : goal.returns-in-Ends
-returns-in-Ends c = printed _ (omega arith) (search first_end)
-
-pub returns-in-Bad : goal.returns-in-Bad
-returns-in-Bad c = printed _ (omega arith) (search first_bad)
+pub returns : goal.returns
+returns c = elim c.if-job-gt-MAX_BYTES.branch [
+  | long w ↦
+      long_print c.args.job.now w.new.result w.if-job-gt-MAX_BYTES.true w.new.ensures (omega arith) (ap (λ x. x.1.0) w.print-is) (ap (λ x. x.0.now) w.print-is) (rw w.done-is at c.put_last.ensures.put)
+  | short w ↦
+      whole_print c.args.job.now (short_said c.args.job.now w.if-job-gt-MAX_BYTES.false w.run_sizes-done.ensures) refl (omega arith) (ap (λ x. x.1.0) w.print-is) (ap (λ x. x.0.now) w.print-is)
+      (rw w.done-is at c.put_last.ensures.put)
+]

@@ -1,22 +1,30 @@
--- `run_records` puts what is printed from an offset on: what is printed so far and what the records left print are the whole. Each record
--- that goes on lies further on in the job.
+-- `run_records` puts what is printed from an offset on: what is put so far and what the records left print are the whole.
 -- Assumes nothing.
-use mathlib.Core.Path.{refl}
-use native.Mathlib.Omega.{arith}
-use Rattle.jobs.proofs.Turns.{left_start, left_stops, left_goes, left_less}
+use Rattle.std.proofs.Common.{refl, arith, rules, ap}
+use Rattle.jobs.specs.Obeys.{goes_after}
+use Rattle.jobs.proofs.Turns.{left_start, none_turn, turn_goes, last_turn, break_stops, continue_goes}
+use Rattle.std.proofs.lemmas.Result.{err_from_is_err_and}
 use Rattle.jobs.proofs.run_records.Goals as goal
 
-pub loop-z-init : goal.loop-z-init
-loop-z-init c = (left_start _ _ _ _ _ _ c.requires.stood (omega arith) (omega arith) (omega arith), refl, refl, refl, refl, refl)
+pub loop-at-init : goal.loop-at-init
+loop-at-init c = (tt, tt, left_start _ _ _ _ _ (omega arith) (omega arith) (omega arith), (refl, refl, refl, refl, refl), refl)
 
-pub obey-done-requires : goal.obey-done-requires
-obey-done-requires c = record { stood = c.loop-z.invariant.0.stood; n_in_bounds = omega arith; at_bound = omega arith }
+pub returns-in_err-obey-clause-said : goal.returns-in_err-obey-clause-said
+returns-in_err-obey-clause-said c =
+    let p = err_from_is_err_and c.from_residual.result c.from_residual.ensures.1 in
+    rw (p.1, p.2)
+    (last_turn c.loop-at.invariant.2 c.in-Some.ensures.steps c.obey.ensures.obeys _
+    (rw c.in_err-obey.was refl) (ap goes_after c.in_err-obey.was))
 
-pub returns-then-not-done : goal.returns-then-not-done
-returns-then-not-done c = left_stops _ _ _ _ _ _ _ _ _ _ _ _ _ c.loop-z.invariant.0 c.take-taken.ensures c.obey-done.ensures c.if-not-done.true
+pub returns-then-is_break-clause-said : goal.returns-then-is_break-clause-said
+returns-then-is_break-clause-said c =
+    last_turn c.loop-at.invariant.2 c.in-Some.ensures.steps c.obey.ensures.obeys _
+    (rw c.in_ok-obey.was refl) (rw c.in_ok-obey.was (break_stops _ c.if-is_break.ensures))
 
-pub loop-z-smaller : goal.loop-z-smaller
-loop-z-smaller c = omega (arith, left_less _ _ _ _ _ _ _ _ _ _ _ _ _ c.loop-z.invariant.0 c.take-taken.ensures c.obey-done.ensures c.if-not-done.false, (left_goes _ _ _ _ _ _ _ _ _ _ _ _ _ c.loop-z.invariant.0 c.take-taken.ensures c.obey-done.ensures c.if-not-done.false).inside)
+pub loop-at-preserved : goal.loop-at-preserved
+loop-at-preserved c =
+    let left = turn_goes c.loop-at.invariant.2 c.in-Some.ensures.steps c.obey.ensures.obeys (rw c.in_ok-obey.was (continue_goes _ c.if-is_break.ensures)) in
+    (tt, tt, rw (ap (λ z. z.sizes) c.obey.ensures.same.0) left, search rules, search rules)
 
-pub loop-z-preserved : goal.loop-z-preserved
-loop-z-preserved c = (left_goes _ _ _ _ _ _ _ _ _ _ _ _ _ c.loop-z.invariant.0 c.take-taken.ensures c.obey-done.ensures c.if-not-done.false, omega arith, omega arith, omega arith, omega arith, omega arith)
+pub returns-clause-said : goal.returns-clause-said
+returns-clause-said c = none_turn c.loop-at.invariant.2 c.new.result c.new.ensures.0 c.new.ensures.1 c.in_default.ensures.steps

@@ -1,17 +1,16 @@
--- `run_records` puts what is printed from an offset on: what is printed so far and what the records left print are the whole. Each record
--- that goes on lies further on in the job.
-use mathlib.Core.Path.{◌≡◌}
-use lib.ListN.{length}
-use Prim.Native.Nat.{◌-◌}
-use Rattle.jobs.proofs.Turns.{Left}
+-- `run_records` puts what is printed from an offset on: what is put so far and what the records left print are the whole.
+use Rattle.std.proofs.Common.{◌≡◌, length}
+use Rattle.desk.specs.Lent.{lent_table, SameLists}
 use Rattle.jobs.specs.Job.{print_from}
-use Rattle.standing.specs.Tables.{table}
+use Rattle.jobs.proofs.Turns.{Left}
 use Rattle.jobs.proofs.run_records.Given as goal
 
-abbrev pub invariant-loop-z : goal.invariant-loop-z
-invariant-loop-z l =
-    Left l.z (table l.slots l.locks l.lanes l.path) l.job l.at l.n l.start l.initial.out l.out (print_from (length l.job) l.z (table l.initial.slots l.initial.locks l.initial.lanes l.initial.path) l.job l.from)
-    × (length l.slots ≡ length l.initial.slots) × (length l.locks ≡ length l.initial.locks) × (length l.lanes ≡ length l.initial.lanes) × (length l.path ≡ length l.initial.path) × (length l.out ≡ length l.initial.out)
-
-abbrev pub decreases-loop-z : goal.decreases-loop-z
-decreases-loop-z l = length l.job - l.at
+abbrev pub invariant-loop-at : goal.invariant-loop-at
+invariant-loop-at l =
+    let s = l.initial.reader.job.now in
+    (goal.iterator-loop-at).can_next l.reader
+    × (goal.iterator-loop-at).is_finite l.reader
+    × Left l.table.z.sizes (lent_table l.table) l.reader.job.now l.reader.at l.initial.out l.out
+    (print_from (length s) l.initial.table.z.sizes (lent_table l.initial.table) s l.initial.reader.at)
+    × SameLists l.table l.initial.table
+    × (l.reader.job ≡ l.initial.reader.job)

@@ -1,7 +1,9 @@
 -- `put_lane` puts the pieces of its line one after the other.
 -- Assumes nothing.
-use Rattle.lines.proofs.Joined.{lane_joined}
+use Rattle.prints.proofs.Puts.{puts_then}
+use Rattle.lines.specs.Lines.{lane_line}
 use Rattle.lines.proofs.put_lane.Goals as goal
 
 pub returns : goal.returns
-returns c = search lane_joined
+unfolding lane_line
+returns c = search puts_then

@@ -1,7 +1,9 @@
--- `put_place` puts its pieces one after the other.
+-- `put_place` puts the pieces of its text one after the other.
 -- Assumes nothing.
-use Rattle.lines.proofs.Joined.{place_joined}
+use Rattle.prints.proofs.Puts.{puts_then}
+use Rattle.lines.specs.Lines.{place_text}
 use Rattle.lines.proofs.put_place.Goals as goal
 
 pub returns : goal.returns
-returns c = search place_joined
+unfolding place_text
+returns c = search puts_then

@@ -1,7 +1,9 @@
 -- `put_refusal` puts the pieces of its line one after the other.
 -- Assumes nothing.
-use Rattle.lines.proofs.Joined.{refusal_joined}
+use Rattle.prints.proofs.Puts.{puts_then}
+use Rattle.lines.specs.Lines.{refused_line}
 use Rattle.lines.proofs.put_refusal.Goals as goal
 
 pub returns : goal.returns
-returns c = search refusal_joined
+unfolding refused_line
+returns c = search puts_then

@@ -1,11 +1,12 @@
 -- `put_slots` puts the lines of all full slots: those so far and those of the slots that are left are the whole.
+use mathlib.Core.Path.{◌≡◌}
 use Prim.Native.Nat.{◌+◌, ◌-◌, ◌*◌, ◌≤◌}
 use Rattle.lines.specs.Lines.{slot_lines_from, slot_lines}
 use Rattle.prints.proofs.Puts.{Amid}
 use Rattle.lines.proofs.put_slots.Given as goal
 
 abbrev pub invariant-loop-i : goal.invariant-loop-i
-invariant-loop-i l = (l.i ≤ l.count) × (l.count ≤ 512) × (l.next ≤ l.at + 65 * l.i) × Amid l.next l.at l.initial.out l.out (slot_lines_from l.z l.slots (l.count - l.i) l.i) (slot_lines l.z l.slots)
-
-abbrev pub decreases-loop-i : goal.decreases-loop-i
-decreases-loop-i l = l.count - l.i
+invariant-loop-i l =
+    (l.out.at ≤ l.initial.out.at + 65 * l.i)
+    × Amid l.out.at l.initial.out.at l.initial.out.bytes.now l.out.bytes.now (slot_lines_from l.slots.z.sizes l.slots.numbers.now (l.i-end - l.i) l.i) (slot_lines l.slots.z.sizes l.slots.numbers.now)
+    × (l.out.bytes.ghost_name ≡ l.initial.out.bytes.ghost_name)

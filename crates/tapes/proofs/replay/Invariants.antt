@@ -1,10 +1,6 @@
--- `replay` ends: the offset rises at each turn, or the turn is the last, and it stays at or below the list's length.
-use Prim.Native.Nat.{◌≤◌, ◌-◌}
-use lib.ListN.{length}
+-- `replay` ends: each tape shortens what is left of the list.
+use Rattle.std.proofs.Common.{length}
 use Rattle.tapes.proofs.replay.Given as goal
 
-abbrev pub invariant-loop-at : goal.invariant-loop-at
-invariant-loop-at g l = l.at ≤ length l.list
-
-abbrev pub decreases-loop-at : goal.decreases-loop-at
-decreases-loop-at g l = length l.list - l.at
+abbrev pub decreases-loop-tape : goal.decreases-loop-tape
+decreases-loop-tape g l = length l.rest

@@ -1,30 +1,23 @@
 -- `open` is its definition, one law of `Opens` for each way through it.
 -- Assumes nothing.
-use Rattle.std.proofs.lemmas.Bool.{not_from_true}
-use Rattle.desk.proofs.Opens.{opens_badly, opens_short, opens_misshapen, opens_astray, opens_twice, opens}
-use Rattle.desk.proofs.Outcomes.{tests_fit, slots_long}
+use Rattle.std.proofs.Common.{rules}
+use Rattle.std.proofs.lemmas.Result.{err_from_is_err_and}
+use Rattle.desk.proofs.Tested.{slots_long}
+use Rattle.desk.proofs.Opens.{opens_not, opens_unsound, opens}
 use Rattle.desk.proofs.opening.open.Goals as goal
 
-pub returns-then-not-sizes_ok : goal.returns-then-not-sizes_ok
-returns-then-not-sizes_ok c = search opens_badly
+pub returns-in_err-z : goal.returns-in_err-z
+returns-in_err-z c =
+    let p = err_from_is_err_and c.from_residual.result c.from_residual.ensures.1 in
+    rw (p.1, p.2) (opens_not _ _ _ _ _ _ c.in_err-z.ensures)
 
-pub lengths_ok-requires : goal.lengths_ok-requires
-lengths_ok-requires c = search tests_fit
+pub invariant_of-slots : goal.invariant_of-slots
+invariant_of-slots c = record { exact = search (rules, slots_long) }
 
-pub returns-then-not-lengths_ok : goal.returns-then-not-lengths_ok
-returns-then-not-lengths_ok c = search opens_short
+pub returns-in_err-check : goal.returns-in_err-check
+returns-in_err-check c =
+    let p = err_from_is_err_and c.from_residual-in_err-check.result c.from_residual-in_err-check.ensures.1 in
+    rw (p.1, p.2) (opens_unsound _ _ _ _ _ _ c.in_ok-z.ensures _ c.in_err-check.ensures)
 
-pub check-found-requires : goal.check-found-requires
-check-found-requires c = record { fits = search tests_fit; slots_len = slots_long _ _ _ _ _ _ c.lengths_ok.ensures (not_from_true _ c.if-not-lengths_ok.false) }
-
-pub returns-in-Sound : goal.returns-in-Sound
-returns-in-Sound c = search opens
-
-pub returns-in-Misshapen : goal.returns-in-Misshapen
-returns-in-Misshapen c = search opens_misshapen
-
-pub returns-in-Astray : goal.returns-in-Astray
-returns-in-Astray c = search opens_astray
-
-pub returns-in-Twice : goal.returns-in-Twice
-returns-in-Twice c = search opens_twice
+pub returns : goal.returns
+returns c = opens _ _ _ _ _ _ c.in_ok-z.ensures _ _ _ c.in_ok-check.ensures c.clear.ensures.locks_after c.clear.ensures.lanes_after c.clear.ensures.path_after

@@ -1,24 +1,18 @@
--- `start` is its definition: one law of `Starts` for each test before the call, and the call itself once all three are passed.
+-- `start` is its definition: refused by the tests that come first, or as the lanes decide it.
 -- Assumes nothing.
-use Rattle.std.proofs.lemmas.Bool.{not_from_true}
-use Rattle.desk.proofs.Outcomes.{tests_fit, lists_long, tests_stood}
-use Rattle.desk.proofs.Starts.{starts_badly, starts_short, starts_fallen}
+use Rattle.std.proofs.Common.{rules}
+use Rattle.std.proofs.lemmas.Result.{err_from_is_err_and}
+use Rattle.desk.proofs.Tested.{stood_as, tested_lanes}
+use Rattle.desk.proofs.Starts.{starts_not, starts}
 use Rattle.desk.proofs.starting.start.Goals as goal
 
-pub returns-then-not-sizes_ok : goal.returns-then-not-sizes_ok
-returns-then-not-sizes_ok c = search starts_badly
+pub returns-in_err-z : goal.returns-in_err-z
+returns-in_err-z c =
+    let p = err_from_is_err_and c.from_residual.result c.from_residual.ensures.1 in
+    rw (p.1, p.2) (starts_not _ _ _ _ _ c.in_err-z.ensures)
 
-pub lengths_ok-requires : goal.lengths_ok-requires
-lengths_ok-requires c = search tests_fit
+pub start_lane-requires : goal.start_lane-requires
+start_lane-requires c = search (rules, tested_lanes)
 
-pub returns-then-not-lengths_ok : goal.returns-then-not-lengths_ok
-returns-then-not-lengths_ok c = search starts_short
-
-pub stands-requires : goal.stands-requires
-stands-requires c = record { fits = search tests_fit; lengths = lists_long _ _ _ _ _ _ c.lengths_ok.ensures (not_from_true _ c.if-not-lengths_ok.false) }
-
-pub returns-then-not-stands : goal.returns-then-not-stands
-returns-then-not-stands c = search starts_fallen
-
-pub start_standing-requires : goal.start_standing-requires
-start_standing-requires c = tests_stood _ _ _ _ _ _ _ _ c.sizes_ok.ensures (not_from_true _ c.if-not-sizes_ok.false) c.lengths_ok.ensures (not_from_true _ c.if-not-lengths_ok.false) c.stands.ensures (not_from_true _ c.if-not-stands.false)
+pub returns : goal.returns
+returns c = starts _ _ _ _ _ _ _ c.in_ok-z.ensures (c.start_lane.ensures.keeps _ _ _ (stood_as _ _ _ c.in_ok-z.ensures))

@@ -1,24 +1,18 @@
--- `step` is its definition: one law of `Steps` for each test before the call, and the call itself once all three are passed.
+-- `step` is its definition: refused by the tests that come first, or the step of a table that stands by its type.
 -- Assumes nothing.
-use Rattle.std.proofs.lemmas.Bool.{not_from_true}
-use Rattle.desk.proofs.Outcomes.{tests_fit, lists_long, tests_stood}
-use Rattle.desk.proofs.Steps.{steps_badly, steps_short, steps_fallen}
+use Rattle.std.proofs.Common.{rules}
+use Rattle.std.proofs.lemmas.Result.{err_from_is_err_and}
+use Rattle.desk.proofs.Tested.{stood_as}
+use Rattle.desk.proofs.Steps.{steps_not, steps}
 use Rattle.desk.proofs.stepping.step.Goals as goal
 
-pub returns-then-not-sizes_ok : goal.returns-then-not-sizes_ok
-returns-then-not-sizes_ok c = search steps_badly
+pub returns-in_err-z : goal.returns-in_err-z
+returns-in_err-z c =
+    let p = err_from_is_err_and c.from_residual.result c.from_residual.ensures.1 in
+    rw (p.1, p.2) (steps_not _ _ _ _ _ c.in_err-z.ensures)
 
-pub lengths_ok-requires : goal.lengths_ok-requires
-lengths_ok-requires c = search tests_fit
+pub invariant_of-table : goal.invariant_of-table
+invariant_of-table c = record { stood = stood_as _ _ _ c.in_ok-z.ensures }
 
-pub returns-then-not-lengths_ok : goal.returns-then-not-lengths_ok
-returns-then-not-lengths_ok c = search steps_short
-
-pub stands-requires : goal.stands-requires
-stands-requires c = record { fits = search tests_fit; lengths = lists_long _ _ _ _ _ _ c.lengths_ok.ensures (not_from_true _ c.if-not-lengths_ok.false) }
-
-pub returns-then-not-stands : goal.returns-then-not-stands
-returns-then-not-stands c = search steps_fallen
-
-pub step_standing-requires : goal.step_standing-requires
-step_standing-requires c = tests_stood _ _ _ _ _ _ _ _ c.sizes_ok.ensures (not_from_true _ c.if-not-sizes_ok.false) c.lengths_ok.ensures (not_from_true _ c.if-not-lengths_ok.false) c.stands.ensures (not_from_true _ c.if-not-stands.false)
+pub returns : goal.returns
+returns c = let k = steps _ _ _ _ _ _ _ c.in_ok-z.ensures c.step.ensures.keeps in search rules

@@ -1,10 +1,7 @@
--- `finish` puts what the end of a job prints, by whether a byte stands after it.
+-- What stands has slots of the right length.
 -- Assumes nothing.
-use Rattle.jobs.proofs.Obeyed.{end_fault, end_lines_lem}
+use Rattle.kept.proofs.Long.{lengths_of}
 use Rattle.jobs.proofs.doing.finish.Goals as goal
 
-pub returns-then-at-job : goal.returns-then-at-job
-returns-then-at-job c = search end_fault
-
-pub returns : goal.returns
-returns c = search end_lines_lem
+pub invariant_of-slots : goal.invariant_of-slots
+invariant_of-slots c = record { exact = (lengths_of _ _ c.args.table.now.stood.lengths).slots }

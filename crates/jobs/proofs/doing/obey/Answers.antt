@@ -1,31 +1,25 @@
--- `obey` does what the record comes to, one law for each kind. What stands has slots of the right length.
+-- `obey` does what the record comes to. What is left to show is what the desk refuses.
 -- Assumes nothing.
-use native.Mathlib.Omega.{arith}
-use Rattle.kept.proofs.Long.{lengths_of}
-use Rattle.places.proofs.Limits.{ok_fits}
-use Rattle.jobs.proofs.Obeyed.{on_sizes, on_start, on_step, on_end, on_bad}
+use mathlib.Core.Path.{◌≡◌}
+use Rattle.std.proofs.Common.{rules}
+use Rattle.std.proofs.iter.Serving.{serving}
+use Rattle.std.proofs.lemmas.Result.{err_from_is_err_and}
+use Rattle.jobs.specs.declared.stop.Cause.TheVariants.{Refused}
+use Rattle.jobs.proofs.Obeyed.{err_of, start_declined, step_declined}
 use Rattle.jobs.proofs.doing.obey.Goals as goal
 
-pub begin-requires : goal.begin-requires
-begin-requires c = record { stood = c.requires.stood; n_in_bounds = omega arith; at_bound = omega arith }
+pub returns-in_err-map_err-in-Starts-clause-obeys : goal.returns-in_err-map_err-in-Starts-clause-obeys
+returns-in_err-map_err-in-Starts-clause-obeys c =
+    let stop = c.in_err-map_err-in-Starts.field-0.0 in
+    let w = err_of _ c.start.result c.map_err.result stop c.in_err-map_err-in-Starts.was c.map_err.ensures.cases in
+    let made : (stop.cause ≡ Refused w.0) × (stop.at ≡ c.args.at) = search (rules, serving) in
+    let p = err_from_is_err_and c.from_residual.result c.from_residual.ensures.1 in
+    rw (p.1, p.2, c.in-Starts.is) (start_declined c.args.at c.args.out.now _ _ w.0 stop made.0 made.1 _ c.in-Starts.j c.in-Starts.request c.start.result c.start.ensures.keeps w.1)
 
-pub advance-requires : goal.advance-requires
-advance-requires c = record { stood = c.requires.stood; n_in_bounds = omega arith; at_bound = omega arith }
-
-pub finish-requires : goal.finish-requires
-finish-requires c = record { fits = ok_fits _ c.requires.stood.sizes; slots_len = (lengths_of _ _ c.requires.stood.lengths).slots; n_in_bounds = omega arith; at_bound = omega arith }
-
-pub returns-in-Opens : goal.returns-in-Opens
-returns-in-Opens c = search on_sizes
-
-pub returns-in-Starts : goal.returns-in-Starts
-returns-in-Starts c = search on_start
-
-pub returns-in-Steps : goal.returns-in-Steps
-returns-in-Steps c = search on_step
-
-pub returns-in-Ends : goal.returns-in-Ends
-returns-in-Ends c = search on_end
-
-pub returns-in-Bad : goal.returns-in-Bad
-returns-in-Bad c = search on_bad
+pub returns-in_err-map_err-in-Steps-clause-obeys : goal.returns-in_err-map_err-in-Steps-clause-obeys
+returns-in_err-map_err-in-Steps-clause-obeys c =
+    let stop = c.in_err-map_err-in-Steps.field-0.0 in
+    let w = err_of _ c.step.result c.map_err-in-Steps.result stop c.in_err-map_err-in-Steps.was c.map_err-in-Steps.ensures.cases in
+    let made : (stop.cause ≡ Refused w.0) × (stop.at ≡ c.args.at) = search (rules, serving) in
+    let p = err_from_is_err_and c.from_residual-in_err-map_err-in-Steps.result c.from_residual-in_err-map_err-in-Steps.ensures.1 in
+    rw (p.1, p.2, c.in-Steps.is) (step_declined c.args.at c.args.out.now _ _ w.0 stop made.0 made.1 _ c.in-Steps.j c.in-Steps.byte c.step.result c.step.ensures.keeps w.1)

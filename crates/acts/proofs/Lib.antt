@@ -1,2 +1,0 @@
-pub mod Acting
-mod Performing

@@ -1,7 +1,0 @@
--- `first_in` is its definition: its tests are those of the list, in that order.
--- Assumes nothing.
-use mathlib.Core.Bool.{and-true}
-use Rattle.ranges.proofs.first_in.Goals as goal
-
-pub returns : goal.returns
-returns c = rw (c.is_idle.ensures, c.grab_in.ensures, c.mode_of.ensures, and-true)

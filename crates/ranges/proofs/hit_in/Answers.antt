@@ -1,7 +1,0 @@
--- `hit_in` is its definition: its tests are those of the list, in that order.
--- Assumes nothing.
-use mathlib.Core.Bool.{and-true}
-use Rattle.ranges.proofs.hit_in.Goals as goal
-
-pub returns : goal.returns
-returns c = rw (c.is_read.ensures, and-true)

@@ -1,6 +1,0 @@
--- `is_first_pass` is its definition: a test of the code of the operation.
--- Assumes nothing.
-use Rattle.ranges.proofs.is_first_pass.Goals as goal
-
-pub returns : goal.returns
-returns c = rw c.op_code.ensures

@@ -1,7 +1,0 @@
--- `write_in` is its definition: its tests are those of the list, in that order.
--- Assumes nothing.
-use mathlib.Core.Bool.{and-true}
-use Rattle.ranges.proofs.write_in.Goals as goal
-
-pub returns : goal.returns
-returns c = rw (c.writes_hit.ensures, and-true)

@@ -1,2 +1,0 @@
-mod Rowing
-pub mod Choices

@@ -1,0 +1,7 @@
+-- `place_of` is place i of the store: read where there is one, zeros past the end.
+-- Assumes nothing.
+use Rattle.standing.proofs.Beyond.{place_past}
+use Rattle.standing.proofs.Lent.place_of.Goals as goal
+
+pub returns-else-i-self : goal.returns-else-i-self
+returns-else-i-self c = search place_past
