@@ -1,14 +1,18 @@
 // What a lane does next. Values in, a value out, no memory.
 ghost use Rattle.std.specs.Prelude.{◌≡◌, cond, ◌-◌, ◌≤◌};
 ghost use Rattle.places.specs.Table.{lock_of};
-ghost use Rattle.machine.specs.Steps.{mode_of, row_on, swing_rows, outcome_places, ending_places, path_length, written, act_of};
+ghost use Rattle.machine.specs.Sides.{side_row, is_last};
+ghost use Rattle.machine.specs.Rules.{mode_of, row_on, swing_rows, outcome_places, ending_places, written};
+ghost use Rattle.machine.specs.Stages.{path_length, places_of, act_of};
 ghost use Rattle.acts.specs.Fitting.{StageFits};
 
-use locks::Mode;
-use machine::{Act, Ending, Lane, Op, Outcome, Side, Stage, Tail, Walk};
+use locks::{Mode, main_lock};
+use machine::{Act, Ending, Lane, Outcome, Side, Stage, Tail, Task, Walk};
 use paths::Place;
 use places::Layout;
-use rows::{high_lock, low_lock, mode_of, other_lock, row_lock, row_on, sought_lock, swing_rows};
+use rows::{
+    is_insert, is_last, mode_of, other_lock, row_lock, row_on, sought_lock, swing_lock, swing_rows,
+};
 use slots::Slot;
 
 fn outcome_places(o: Outcome) -> u32
@@ -29,113 +33,111 @@ fn ending_places(e: Ending) -> u32
     }
 }
 
-// A lane at its turn, and the last place on its path.
+// A lane with a task at its turn, and the last place on its path.
 #[derive(Clone, Copy)]
 pub struct Turn {
     pub z: Layout,
-    pub lane: Lane,
+    pub task: Task,
     pub last: Place,
 }
 
 // How many places of the path store are the lane's.
+#[tactic(auto, unfolding(machine::specs::Stages::item_at))]
 pub fn path_length(stage: Stage) -> u32
     ensures { result ≡ path_length stage }
 {
     match stage {
-        Stage::DropFirst(o) | Stage::DropSecond(o) => outcome_places(o),
+        Stage::Drop(_, o) => outcome_places(o),
         Stage::DropMain(e) => ending_places(e),
         Stage::TakeNext(_, t)
         | Stage::LookNext(_, t)
         | Stage::PickNext(t)
         | Stage::DropNext(_, t) => t.places,
-        Stage::TakeLow(_, w) | Stage::TakeHigh(_, w) => w.places,
-        Stage::Swing(w) | Stage::DropLow(w) | Stage::DropHigh(w) => w.places,
+        Stage::TakeSwing(_, _, w) | Stage::Swing(w) | Stage::DropSwing(_, w) => w.places,
         _ => 0,
+    }
+}
+
+// The same of a lane: an idle one has none.
+pub fn places_of(lane: Lane) -> u32
+    ensures { result ≡ places_of lane }
+{
+    match lane {
+        Lane::Idle => 0,
+        Lane::Busy(task) => path_length(task.stage),
     }
 }
 
 impl Turn {
     // A look at a slot of a row of the key.
     fn see(self, side: Side, column: u32) -> Act
-        ensures { result ≡ Act.Look (row_on self.z.sizes self.lane.key side) column }
+        ensures { result ≡ Act.Look (row_on self.z.sizes self.task.key side) column }
     {
-        Act::Look(row_on(self.z, self.lane.key, side), column)
+        Act::Look(row_on(self.z, self.task.key, side), column)
     }
 
     // The write of a slot of a row of the key.
     fn write(self, side: Side, column: u32, s: Slot) -> Act
-        ensures { result ≡ Act.Store (row_on self.z.sizes self.lane.key side) column s }
+        ensures { result ≡ Act.Store (row_on self.z.sizes self.task.key side) column s }
     {
-        Act::Store(row_on(self.z, self.lane.key, side), column, s)
+        Act::Store(row_on(self.z, self.task.key, side), column, s)
     }
 
     // The slot that a hit is overwritten with.
     fn written(self) -> Slot
-        ensures { result ≡ written self.lane.op self.lane.key self.lane.value }
+        ensures { result ≡ written self.task.op self.task.key self.task.value }
     {
-        match self.lane.op {
-            Op::Insert | Op::Again => Slot::full(self.lane.key, self.lane.value),
-            _ => Slot::empty(),
+        if is_insert(self.task.op) {
+            Slot::full(self.task.key, self.task.value)
+        } else {
+            Slot::empty()
         }
     }
 
     // The release of a row of the key.
     fn drop_row(self, side: Side) -> Act
-        ensures { result ≡ Act.Release (lock_of self.z.sizes (row_on self.z.sizes self.lane.key side)) (mode_of self.lane.op) Tail.Keep }
+        ensures { result ≡ Act.Release (lock_of self.z.sizes (row_on self.z.sizes self.task.key side)) (mode_of self.task.op) Tail.Keep }
     {
         Act::Release(
-            row_lock(self.z, self.lane.key, side),
-            mode_of(self.lane.op),
+            row_lock(self.z, self.task.key, side),
+            mode_of(self.task.op),
             Tail::Keep,
         )
     }
 
-    // The release of a swing's lower lock: the last one where both rows have one lock, and then the place leaves the path.
-    fn drop_low(self, w: Walk) -> Act
+    // The release of a lock of a swing: with the last one its place leaves the path.
+    fn drop_swing(self, side: Side, w: Walk) -> Act
         requires { 1 ≤ w.places }
-        ensures { result ≡ Act.Release (lock_of self.z.sizes (swing_rows self.z.sizes self.last w).first) Mode.Writing (cond (swing_rows self.z.sizes self.last w).shared (Tail.TakeOff (w.places - 1)) Tail.Keep) }
+        ensures { result ≡ Act.Release (lock_of self.z.sizes (side_row (swing_rows self.z.sizes self.last w) side)) Mode.Writing (cond (is_last side (swing_rows self.z.sizes self.last w).shared) (Tail.TakeOff (w.places - 1)) Tail.Keep) }
     {
-        let lock = low_lock(self.z, self.last, w);
-        if swing_rows(self.z, self.last, w).shared {
+        let lock = swing_lock(self.z, self.last, w, side);
+        if is_last(side, swing_rows(self.z, self.last, w).shared) {
             Act::Release(lock, Mode::Writing, Tail::TakeOff(w.places - 1))
         } else {
             Act::Release(lock, Mode::Writing, Tail::Keep)
         }
     }
 
-    // The release of a swing's higher lock.
-    fn drop_high(self, w: Walk) -> Act
-        requires { 1 ≤ w.places }
-        ensures { result ≡ Act.Release (lock_of self.z.sizes (swing_rows self.z.sizes self.last w).second) Mode.Writing (Tail.TakeOff (w.places - 1)) }
-    {
-        let lock = high_lock(self.z, self.last, w);
-        Act::Release(lock, Mode::Writing, Tail::TakeOff(w.places - 1))
-    }
-
     // The act of the lane.
-    #[tactic(auto, unfolding(machine::specs::Steps::act_at, crate::specs::Fitting::StageFits))]
+    #[tactic(auto, unfolding(machine::specs::Stages::item_at, crate::specs::Fitting::StageFits))]
     pub fn act(self) -> Act
-        requires { StageFits self.z.sizes self.lane.stage }
-        ensures { result ≡ act_of self.z.sizes self.lane self.last }
+        requires { StageFits self.z.sizes self.task.stage }
+        ensures { result ≡ act_of self.z.sizes self.task self.last }
     {
-        let Turn { z, lane, last } = self;
-        match lane.stage {
-            Stage::Idle => Act::Rest,
-            Stage::TakeMain(g) => Act::Try(z.sizes.locks, g),
-            Stage::TakeFirst(g) => Act::Try(row_lock(z, lane.key, Side::First), g),
-            Stage::TakeSecond(g) => Act::Try(row_lock(z, lane.key, Side::Second), g),
-            Stage::SeekFirst(column) | Stage::RoomFirst(column) => self.see(Side::First, column),
-            Stage::SeekSecond(column) | Stage::RoomSecond(column) => self.see(Side::Second, column),
+        let Turn { z, task, last } = self;
+        match task.stage {
+            Stage::TakeMain(g) => Act::Try(main_lock(z.sizes), g),
+            Stage::Take(side, g) => Act::Try(row_lock(z, task.key, side), g),
+            Stage::Seek(side, column) | Stage::SeekRoom(side, column) => self.see(side, column),
             Stage::WriteHit(side, column) => self.write(side, column, self.written()),
             Stage::WriteRoom(side, column) => self.write(
                 side,
                 column,
-                Slot::full(lane.key, lane.value),
+                Slot::full(task.key, task.value),
             ),
-            Stage::Pick => Act::PickOne(z.home_one(lane.key), z.home_two(lane.key)),
-            Stage::DropFirst(_) => self.drop_row(Side::First),
-            Stage::DropSecond(_) => self.drop_row(Side::Second),
-            Stage::DropMain(_) => Act::Release(z.sizes.locks, Mode::Writing, Tail::Clear),
+            Stage::Pick => Act::PickOne(z.home_one(task.key), z.home_two(task.key)),
+            Stage::Drop(side, _) => self.drop_row(side),
+            Stage::DropMain(_) => Act::Release(main_lock(z.sizes), Mode::Writing, Tail::Clear),
             Stage::TakeNext(g, _) => Act::Try(other_lock(z, last), g),
             Stage::LookNext(column, _) => Act::Look(last.other_row(z), column),
             Stage::PickNext(t) => Act::PickFrom(last.other_row(z), t.places),
@@ -144,11 +146,9 @@ impl Turn {
                 Mode::Reading,
                 Tail::Keep,
             ),
-            Stage::TakeLow(g, w) => Act::Try(low_lock(z, last, w), g),
-            Stage::TakeHigh(g, w) => Act::Try(high_lock(z, last, w), g),
+            Stage::TakeSwing(side, g, w) => Act::Try(swing_lock(z, last, w, side), g),
             Stage::Swing(w) => Act::Move(last, w.row, w.column),
-            Stage::DropLow(w) => self.drop_low(w),
-            Stage::DropHigh(w) => self.drop_high(w),
+            Stage::DropSwing(side, w) => self.drop_swing(side, w),
         }
     }
 }

@@ -87,7 +87,7 @@ impl LentMemory<'_> {
         requires { ActFits self.now.z.sizes (memory_of self.now) (Act.Move from row column) }
         ensures { result ≡ can_move self.now.z.sizes self.now.slots.now from row column }
     {
-        self.slot(from.row, from.column).holds_key(from.key) && self.slot(row, column).is_empty()
+        self.slot(from.row, from.column).has_key(from.key) && self.slot(row, column).is_empty()
     }
 
     // One step of taking lock k.
@@ -96,7 +96,7 @@ impl LentMemory<'_> {
         ensures { Performs result self.old self.new (perform self.old.z.sizes (Act.Try k g) 0 (memory_of self.old)) }
     {
         Seen {
-            tried: take_step(self.locks, k as usize, g),
+            tried: take_step(self.z.sizes, self.locks, k as usize, g),
             slot: Slot::empty(),
         }
     }
@@ -106,7 +106,7 @@ impl LentMemory<'_> {
         requires { ActFits self.old.z.sizes (memory_of self.old) (Act.Release k mode tail) }
         ensures { Performs result self.old self.new (perform self.old.z.sizes (Act.Release k mode tail) 0 (memory_of self.old)) }
     {
-        release(self.locks, k as usize, mode);
+        release(self.z.sizes, self.locks, k as usize, mode);
         trim(self.path, tail);
         Seen::default()
     }
@@ -172,7 +172,6 @@ impl LentMemory<'_> {
         ensures { Performs result self.old self.new (perform self.old.z.sizes act byte (memory_of self.old)) }
     {
         match act {
-            Act::Rest => Seen::default(),
             Act::Try(k, g) => self.take(k, g),
             Act::Release(k, mode, tail) => self.release(k, mode, tail),
             Act::Look(row, column) => self.look(row, column),

@@ -5,5 +5,5 @@
 mod acts;
 mod doing;
 
-pub use acts::{Turn, path_length};
+pub use acts::{Turn, path_length, places_of};
 pub use doing::LentMemory;

@@ -1,16 +1,22 @@
 -- 01, "Tapes to try": the starred cases as one table.
 -- Assumes nothing.
-use Rattle.std.specs.Prelude.{ℕ, zero, suc, ◌+◌, ◌*◌, List, [], ◌∷◌, ◌++◌, Bool, true, false, cond, ◌&&◌, ◌||◌, eqb, length, get_or, replicate}
+use Rattle.std.specs.Prelude.{ℕ, zero, suc, ◌+◌, ◌*◌, List, [], ◌∷◌, ◌++◌, Bool, false, cond, not, ◌&&◌, ◌||◌, eqb, length, get_or, replicate, ⊤, Option, None, Result, Ok, Err}
 use Rattle.lists.specs.Below.{all_of, all_below}
+use Rattle.linear.specs.declared.Request.{Request}
+use Rattle.linear.specs.declared.Request.TheVariants.{Read, Delete, Insert}
 use Rattle.places.specs.declared.Sizes.{Sizes}
-use Rattle.places.specs.Table.{home_one, home_two, slot_count}
-use Rattle.paths.specs.Path.{path_places}
-use Rattle.machine.specs.declared.Stage.{Stage}
-use Rattle.machine.specs.Lane.{lane_numbers, stage_words, lane_at}
-use Rattle.machine.specs.declared.Request.{Request}
-use Rattle.machine.specs.declared.Request.TheVariants.{AskRead, AskDelete, AskInsert}
+use Rattle.places.specs.Table.{home_one, home_two}
+use Rattle.paths.specs.Path.{path_words}
+use Rattle.machine.specs.declared.Lane.{Lane}
+use Rattle.machine.specs.declared.Lane.TheVariants.{Idle, Busy}
+use Rattle.machine.specs.Lane.{stage_words, lane_words}
+use Rattle.machine.specs.Back.{lane_at}
+use Rattle.linear.specs.declared.End.{End}
+use Rattle.machine.specs.declared.Refusal.{Refusal}
+use Rattle.slots.specs.Slot.{slot_words}
+use Rattle.locks.specs.Locks.{lock_words}
 use Rattle.machine.specs.Standing.{Table}
-use Rattle.machine.specs.Desk.{after_opening, start_answer, start_number, after_start, step_answer, step_numbers, StepNumbers, after_step}
+use Rattle.machine.specs.Desk.{Called, open_of, start_of, step_of, number_of, end_of}
 
 -- ---- a lane run alone
 
@@ -21,48 +27,50 @@ sizes rows columns locks = record { rows = rows; columns = columns; locks = lock
 -- a table with these slots, opened
 abbrev pub table_of : Sizes → List ℕ → Table
 table_of z xs =
-    after_opening z (record { slots = xs; locks = replicate ((z.locks + 1) * 2) 0; lanes = replicate lane_numbers 0; path = replicate (path_places z * 3) 0 })
+    (open_of z (record { slots = xs; locks = replicate (lock_words z) 0; lanes = replicate (lane_words z) 0; path = replicate (path_words z) 0 })).table
 
 -- "empty table"
 abbrev pub empty_table : Sizes → Table
-empty_table z = table_of z (replicate (slot_count z * 3) 0)
+empty_table z = table_of z (replicate (slot_words z) 0)
 
--- where a run stands: the table, the steps taken, the numbers of the last answer
+-- where a run stands: the table, the steps taken, the last answer
 pub record Run : Type 0 where
   pub table : Table
   pub steps : ℕ
-  pub last : StepNumbers
+  pub last : Result (Option End) Refusal
 
 -- a step that picks takes the next byte of the list; any other is given 0
-abbrev pub picks : Stage → Bool
-picks s = eqb (stage_words s).code 10 || eqb (stage_words s).code 16
+abbrev pub picks : Lane → Bool
+picks Idle = false
+picks (Busy k) = eqb (stage_words k.stage).code 10 || eqb (stage_words k.stage).code 16
 
 -- the byte of the next step
-abbrev pub byte_for : Stage → List ℕ → ℕ
-byte_for s bytes = cond (picks s) (get_or bytes 0 0) 0
+abbrev pub byte_for : Lane → List ℕ → ℕ
+byte_for l bytes = cond (picks l) (get_or bytes 0 0) 0
 
 -- and the bytes left after it
-abbrev pub bytes_after : Stage → List ℕ → List ℕ
-bytes_after s [] = []
-bytes_after s (b ∷ bytes) = cond (picks s) bytes (b ∷ bytes)
+abbrev pub bytes_after : Lane → List ℕ → List ℕ
+bytes_after l [] = []
+bytes_after l (b ∷ bytes) = cond (picks l) bytes (b ∷ bytes)
 
 -- a step has ended its operation, or was refused
-abbrev pub ended : StepNumbers → Bool
-ended a = cond (eqb a.number 0) (cond (eqb a.end 0) false true) true
+abbrev pub ended : Result (Option End) Refusal → Bool
+ended a = not (eqb (number_of a) 0) || not (eqb (end_of a).end 0)
 
 -- lane 0 by itself for n steps, or until a step ends it or is refused
 unfoldable pub run_alone : ℕ → Sizes → List ℕ → Run → Run
 run_alone zero z bytes r = r
 run_alone (suc n) z bytes r =
-    let s : Stage = (lane_at r.table.lanes 0).stage in
-    let a : StepNumbers = step_numbers (step_answer z r.table 0 (byte_for s bytes)) in
-    let t : Table = after_step z r.table 0 (byte_for s bytes) in
-    cond (ended a) (record { table = t; steps = r.steps + 1; last = a })
-    (run_alone n z (bytes_after s bytes) (record { table = t; steps = r.steps + 1; last = a }))
+    let l : Lane = lane_at r.table.lanes 0 in
+    let c : Called (Result (Option End) Refusal) = step_of z r.table 0 (byte_for l bytes) in
+    let on : Run = record { table = c.table; steps = r.steps + 1; last = c.answer } in
+    cond (ended c.answer) on (run_alone n z (bytes_after l bytes) on)
 
--- a request started
+-- a request started: an answer so far is that the lane goes on
 abbrev pub begin : Sizes → Table → Request → Run
-begin z t r = record { table = after_start z t 0 r; steps = 0; last = record { number = start_number (start_answer z t 0 r); end = 0; value = 0 } }
+begin z t r =
+    let c : Called (Result ⊤ Refusal) = start_of z t 0 r in
+    record { table = c.table; steps = 0; last = elim c.answer [ Ok u ↦ Ok None | Err why ↦ Err why ] }
 
 -- ---- the cases
 
@@ -94,25 +102,25 @@ unfoldable pub passes : Case → Bool
 passes (rows_are rows key one two) = eqb (home_one (sizes rows 1 1) key) one && eqb (home_two (sizes rows 1 1) key) two
 passes (takes z r steps end) =
     let e : Run = run_alone plenty z [] (begin z (empty_table z) r) in
-    all_of (eqb e.steps steps ∷ eqb e.last.number 0 ∷ eqb e.last.end end ∷ [])
+    all_of (eqb e.steps steps ∷ eqb (number_of e.last) 0 ∷ eqb (end_of e.last).end end ∷ [])
 passes (walks z xs r bytes steps end ys) =
     let e : Run = run_alone plenty z bytes (begin z (table_of z xs) r) in
     all_of
-    (eqb e.steps steps ∷ eqb e.last.number 0 ∷ eqb e.last.end end ∷ same e.table.slots ys
+    (eqb e.steps steps ∷ eqb (number_of e.last) 0 ∷ eqb (end_of e.last).end end ∷ same e.table.slots ys
     ∷ zeros e.table.locks ∷ zeros e.table.lanes ∷ zeros e.table.path ∷ [])
 passes (picked z xs r bytes steps ps) =
     let e : Run = run_alone steps z bytes (begin z (table_of z xs) r) in
-    all_of (eqb e.steps steps ∷ eqb e.last.number 0 ∷ same e.table.path ps ∷ [])
+    all_of (eqb e.steps steps ∷ eqb (number_of e.last) 0 ∷ same e.table.path ps ∷ [])
 
 -- ---- the table
 
 -- "11 + 2W", "6 + 2W", "8 + 2W" at distinct locks and "4 + 2W" at a shared one, for a table of 4 rows
 abbrev pub counts_at : ℕ → List Case
 counts_at w =
-    takes (sizes 4 w 4) (AskInsert 8 7) (11 + 2 * w) 4
-    ∷ takes (sizes 4 w 4) (AskDelete 8) (6 + 2 * w) 3
-    ∷ takes (sizes 4 w 4) (AskRead 8) (8 + 2 * w) 1
-    ∷ takes (sizes 4 w 1) (AskRead 8) (4 + 2 * w) 1
+    takes (sizes 4 w 4) (Insert 8 7) (11 + 2 * w) 4
+    ∷ takes (sizes 4 w 4) (Delete 8) (6 + 2 * w) 3
+    ∷ takes (sizes 4 w 4) (Read 8) (8 + 2 * w) 1
+    ∷ takes (sizes 4 w 1) (Read 8) (4 + 2 * w) 1
     ∷ []
 
 -- rows 24, 12 / 9, 1 / empty / 11, 23, each key with itself as value
@@ -129,11 +137,11 @@ unfoldable pub cases : List Case
 cases =
     rows_are 3 1024 1 0 ∷ rows_are 2 5 1 0 ∷ rows_are 4 8 0 3 ∷ rows_are 4 9 1 0 ∷ rows_are 4 11 3 2
     ∷ counts_at 1 ++ counts_at 2 ++ counts_at 5 ++ counts_at 8
-    ++ walks (sizes 4 2 4) walk_slots (AskInsert 8 7) (0 ∷ 0 ∷ 0 ∷ 1 ∷ []) 86 6 walked_slots
+    ++ walks (sizes 4 2 4) walk_slots (Insert 8 7) (0 ∷ 0 ∷ 0 ∷ 1 ∷ []) 86 6 walked_slots
     -- its path after the last pick: (0,0), (1,0), (0,0), (1,1)
-    ∷ picked (sizes 4 2 4) walk_slots (AskInsert 8 7) (0 ∷ 0 ∷ 0 ∷ 1 ∷ []) 37 (0 ∷ 0 ∷ 24 ∷ 1 ∷ 0 ∷ 9 ∷ 0 ∷ 0 ∷ 24 ∷ 1 ∷ 1 ∷ 1 ∷ 0 ∷ 0 ∷ 0 ∷ 0 ∷ 0 ∷ 0 ∷ [])
+    ∷ picked (sizes 4 2 4) walk_slots (Insert 8 7) (0 ∷ 0 ∷ 0 ∷ 1 ∷ []) 37 (0 ∷ 0 ∷ 24 ∷ 1 ∷ 0 ∷ 9 ∷ 0 ∷ 0 ∷ 24 ∷ 1 ∷ 1 ∷ 1 ∷ 0 ∷ 0 ∷ 0 ∷ 0 ∷ 0 ∷ 0 ∷ [])
     -- byte 3: row h2, column 1
-    ∷ picked (sizes 4 2 4) walk_slots (AskInsert 8 7) (3 ∷ []) 15 (3 ∷ 1 ∷ 23 ∷ 0 ∷ 0 ∷ 0 ∷ 0 ∷ 0 ∷ 0 ∷ 0 ∷ 0 ∷ 0 ∷ 0 ∷ 0 ∷ 0 ∷ 0 ∷ 0 ∷ 0 ∷ [])
+    ∷ picked (sizes 4 2 4) walk_slots (Insert 8 7) (3 ∷ []) 15 (3 ∷ 1 ∷ 23 ∷ 0 ∷ 0 ∷ 0 ∷ 0 ∷ 0 ∷ 0 ∷ 0 ∷ 0 ∷ 0 ∷ 0 ∷ 0 ∷ 0 ∷ 0 ∷ 0 ∷ 0 ∷ [])
     -- key 21 has h1 = 1, h2 = 0, so l1 > l2: byte 0 takes h1 all the same
-    ∷ picked (sizes 4 2 4) walk_slots (AskInsert 21 7) (0 ∷ []) 15 (1 ∷ 0 ∷ 9 ∷ 0 ∷ 0 ∷ 0 ∷ 0 ∷ 0 ∷ 0 ∷ 0 ∷ 0 ∷ 0 ∷ 0 ∷ 0 ∷ 0 ∷ 0 ∷ 0 ∷ 0 ∷ [])
+    ∷ picked (sizes 4 2 4) walk_slots (Insert 21 7) (0 ∷ []) 15 (1 ∷ 0 ∷ 9 ∷ 0 ∷ 0 ∷ 0 ∷ 0 ∷ 0 ∷ 0 ∷ 0 ∷ 0 ∷ 0 ∷ 0 ∷ 0 ∷ 0 ∷ 0 ∷ 0 ∷ 0 ∷ [])
     ∷ []

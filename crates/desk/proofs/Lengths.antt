@@ -7,8 +7,11 @@ use Prim.Native.Nat.{ℕ, ◌+◌, ◌*◌}
 use lib.Dec.{eqb}
 use lib.ListN.{length}
 use Rattle.places.specs.declared.Sizes.{Sizes}
-use Rattle.places.specs.Table.{slot_count}
+use Rattle.slots.specs.Slot.{slot_words}
+use Rattle.paths.specs.Path.{path_words}
+use Rattle.locks.specs.Locks.{lock_words}
 use Rattle.machine.specs.Desk.{lengths_ok}
+use Rattle.machine.specs.Lane.{lane_words}
 use Rattle.standing.specs.Tables.{table}
 
 -- the four tests of the lengths in a row
@@ -22,7 +25,9 @@ and_nest true true false d = refl
 and_nest true false c d = refl
 and_nest false b c d = refl
 
-pub lengths_test : (z : Sizes) (xs ls vs ps : List ℕ) (n : ℕ) → n ≡ slot_count z → eqb (length xs) (n * 3) && eqb (length ls) ((z.locks + 1) * 2) && eqb (length vs) (z.lanes * 14) && eqb (length ps) ((z.rows + 2) * 3) ≡ lengths_ok z (table xs ls vs ps)
+pub lengths_test : (z : Sizes) (xs ls vs ps : List ℕ) (a b c d : ℕ) → a ≡ slot_words z → b ≡ lock_words z → c ≡ lane_words z → d ≡ path_words z
+    → eqb (length xs) a && eqb (length ls) b && eqb (length vs) c && eqb (length ps) d ≡ lengths_ok z (table xs ls vs ps)
 unfolding lengths_ok
-lengths_test z xs ls vs ps n e =
-    rw e (and_nest (eqb (length xs) (slot_count z * 3)) (eqb (length ls) ((z.locks + 1) * 2)) (eqb (length vs) (z.lanes * 14)) (eqb (length ps) ((z.rows + 2) * 3)))
+lengths_test z xs ls vs ps a b c d ea eb ec ed =
+    rw (ea, eb, ec, ed)
+    (and_nest (eqb (length xs) (slot_words z)) (eqb (length ls) (lock_words z)) (eqb (length vs) (lane_words z)) (eqb (length ps) (path_words z)))

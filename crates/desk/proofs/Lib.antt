@@ -1,6 +1,5 @@
 pub mod Fits
 pub mod Lengths
-pub mod Outcomes
 mod Opens
 mod Starts
 mod Steps

@@ -5,23 +5,27 @@ ghost use Rattle.machine.specs.Desk.{lengths_ok};
 ghost use Rattle.standing.specs.Tables.{table};
 ghost use Rattle.desk.specs.Tests.{sized, tested};
 
+use locks::lock_words;
 use machine::Refusal;
+use paths::path_words;
 use places::{Layout, Sizes};
-use records::LANE_NUMBERS;
+use records::lane_words;
+use slots::slot_words;
 use standing::Lent;
 
 // Every lent length is what the sizes need.
+#[tactic(auto, using(crate::proofs::Lengths::lengths_test))]
 fn lengths_ok(z: Layout, slots: &[u32], locks: &[u32], lanes: &[u32], path: &[u32]) -> bool
     ensures { result ≡ lengths_ok z.sizes (table slots.now locks.now lanes.now path.now) }
 {
-    (slots.len() == z.slot_count() * 3)
-        & (locks.len() == ((z.sizes.locks as usize) + 1) * 2)
-        & (lanes.len() == (z.sizes.lanes as usize) * LANE_NUMBERS)
-        & (path.len() == ((z.sizes.rows as usize) + 2) * 3)
+    (slots.len() == slot_words(z))
+        & (locks.len() == lock_words(z.sizes))
+        & (lanes.len() == lane_words(z))
+        & (path.len() == path_words(z))
 }
 
 // The layout of lent memory: refusals 1 and 2, in that order.
-#[tactic(auto, using(crate::proofs::Tested::laid, crate::proofs::Tested::unlaid), unfolding(crate::specs::Tests::sized))]
+#[tactic(auto, using(crate::proofs::Tested::laid, crate::proofs::Tested::unlaid))]
 pub(super) fn layout_of(
     z: Sizes,
     slots: &[u32],
@@ -39,7 +43,7 @@ pub(super) fn layout_of(
 }
 
 // The layout of a table that stands: refusals 1, 2 and 9, in that order.
-#[tactic(auto, using(crate::proofs::Tested::sized_ok, crate::proofs::Tested::sized_long), unfolding(crate::specs::Tests::sized, crate::specs::Tests::tested))]
+#[tactic(auto, using(crate::proofs::Tested::sized_ok, crate::proofs::Tested::sized_long))]
 pub(super) fn upright(
     z: Sizes,
     slots: &[u32],

@@ -9,6 +9,6 @@ mod stepping;
 mod table;
 
 pub use opening::open;
-pub use starting::{start, start_lane};
+pub use starting::start;
 pub use stepping::step;
 pub use table::Standing;

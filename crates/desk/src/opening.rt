@@ -1,8 +1,8 @@
 // Opening: a table of sound slots is cleared for its lanes, any other is refused as it stands.
 ghost use Rattle.std.specs.Prelude.{◌≡◌};
 ghost use Rattle.paths.specs.Path.{emptied};
+ghost use Rattle.machine.specs.Desk.{called, open_of};
 ghost use Rattle.standing.specs.Tables.{table};
-ghost use Rattle.desk.specs.Calls.{OpensTo};
 
 use super::lent::layout_of;
 use machine::Refusal;
@@ -29,7 +29,7 @@ pub fn open(
     lanes: &mut [u32],
     path: &mut [u32],
 ) -> Result<(), Refusal>
-    ensures { OpensTo z (table slots.now locks.old lanes.old path.old) result (table slots.now locks.new lanes.new path.new) }
+    ensures { called result (table slots.now locks.new lanes.new path.new) ≡ open_of z (table slots.now locks.old lanes.old path.old) }
 {
     let z = layout_of(z, slots, locks, lanes, path)?;
     let slots = Slots { z, numbers: slots };

@@ -1,16 +1,13 @@
 // Start: an idle lane begins what it is asked.
-ghost use Rattle.std.specs.Prelude.{◌≡◌, ℕ, ◌*◌, List, length};
-ghost use Rattle.machine.specs.Lane.{lane_numbers};
-ghost use Rattle.machine.specs.Desk.{key_of};
-ghost use Rattle.machine.specs.Desk.{begun as Desk·begun};
-ghost use Rattle.kept.specs.Runs.{Stood};
+ghost use Rattle.std.specs.Prelude.{◌≡◌, ℕ, List, length};
+ghost use Rattle.machine.specs.Lane.{lane_words};
+ghost use Rattle.machine.specs.Desk.{key_of, called, start_of, begun as Desk·begun, start_lane as Desk·start_lane};
 ghost use Rattle.standing.specs.Tables.{table};
-ghost use Rattle.desk.specs.Calls.{StartsTo, StartKeeps};
-ghost use Rattle.desk.specs.Tests.{lane_answer, after_lane};
 
 use super::lent::upright;
+use linear::Request;
 use locks::Mode;
-use machine::{Lane, Op, Refusal, Request, Stage};
+use machine::{Lane, Op, Refusal, Side, Stage, Task};
 use places::{Layout, MAX_KEY, Sizes};
 use records::{is_idle, lane_at, set_lane};
 
@@ -18,43 +15,46 @@ fn key_of(request: Request) -> u32
     ensures { result ≡ key_of request }
 {
     match request {
-        Request::AskRead(key) | Request::AskDelete(key) | Request::AskInsert(key, _) => key,
+        Request::Read(key) | Request::Delete(key) | Request::Insert(key, _) => key,
     }
 }
 
-// The lane that has just started.
-fn begun(request: Request) -> Lane
-    ensures { result ≡ Desk·begun request }
+// The task of a lane that has just started.
+fn begun(z: Sizes, request: Request) -> Task
+    ensures { result ≡ Desk·begun z request }
 {
     match request {
-        Request::AskRead(key) => Lane {
+        Request::Read(key) => Task {
             op: Op::Read,
             key,
             value: 0,
-            stage: Stage::TakeFirst(Mode::Reading.grab()),
+            stage: Stage::Take(Side::First, Mode::Reading.grab(z)),
         },
-        Request::AskDelete(key) => Lane {
+        Request::Delete(key) => Task {
             op: Op::Delete,
             key,
             value: 0,
-            stage: Stage::TakeFirst(Mode::Writing.grab()),
+            stage: Stage::Take(Side::First, Mode::Writing.grab(z)),
         },
-        Request::AskInsert(key, value) => Lane {
+        Request::Insert(key, value) => Task {
             op: Op::Insert,
             key,
             value,
-            stage: Stage::TakeMain(Mode::Writing.grab()),
+            stage: Stage::TakeMain(Mode::Writing.grab(z)),
         },
     }
 }
 
 // A start where the table stands: refusals 6, 7 and 10, in that order. It looks at the lanes alone.
-#[tactic(auto, unfolding(crate::specs::Tests::lane_answer, crate::specs::Tests::after_lane))]
-pub fn start_lane(z: Layout, lanes: &mut [u32], j: u32, request: Request) -> Result<(), Refusal>
-    requires { length lanes.old ≡ z.sizes.lanes * lane_numbers }
-    ensures value { result ≡ lane_answer z.sizes lanes.old j request }
-    ensures lanes_after { lanes.new ≡ after_lane z.sizes lanes.old j request }
-    ensures keeps { (xs ls ps : List ℕ) → Stood z.sizes (table xs ls lanes.old ps) → StartKeeps z.sizes (table xs ls lanes.old ps) j request result (table xs ls lanes.new ps) }
+#[tactic(auto, unfolding(machine::specs::Desk::start_lane, machine::specs::Desk::started))]
+pub(super) fn start_lane(
+    z: Layout,
+    lanes: &mut [u32],
+    j: u32,
+    request: Request,
+) -> Result<(), Refusal>
+    requires { length lanes.old ≡ lane_words z.sizes }
+    ensures { (xs ls ps : List ℕ) → called result (table xs ls lanes.new ps) ≡ Desk·start_lane z.sizes (table xs ls lanes.old ps) j request }
 {
     if z.sizes.lanes <= j {
         return Err(Refusal::NoLane);
@@ -65,7 +65,7 @@ pub fn start_lane(z: Layout, lanes: &mut [u32], j: u32, request: Request) -> Res
     if MAX_KEY < key_of(request) {
         return Err(Refusal::BadKey);
     }
-    set_lane(lanes, j as usize, begun(request));
+    set_lane(lanes, j as usize, Lane::Busy(begun(z.sizes, request)));
     Ok(())
 }
 
@@ -79,7 +79,7 @@ pub fn start(
     j: u32,
     request: Request,
 ) -> Result<(), Refusal>
-    ensures { StartsTo z (table slots.now locks.now lanes.old path.now) j request result (table slots.now locks.now lanes.new path.now) }
+    ensures { called result (table slots.now locks.now lanes.new path.now) ≡ start_of z (table slots.now locks.now lanes.old path.now) j request }
 {
     let z = upright(z, slots, locks, lanes, path)?;
     start_lane(z, lanes, j, request)

@@ -1,9 +1,9 @@
--- The C door's numbers, seen as those of the desk's definitions.
--- Assumes nothing.
-use Rattle.std.specs.Prelude.{ℕ}
+-- The C door: what its functions answer of what the desk answers.
+use Rattle.std.specs.Prelude.{ℕ, ⊤, Option, Result}
 use Rattle.places.specs.declared.Sizes.{Sizes}
-use Rattle.slots.specs.Sound.{Finding}
-use Rattle.machine.specs.Desk.{StepNumbers}
+use Rattle.linear.specs.declared.End.{End}
+use Rattle.machine.specs.declared.Refusal.{Refusal}
+use Rattle.machine.specs.Desk.{Called, called, number_of, index_of, end_of}
 use Rattle.exports.specs.declared.SgOpened.{SgOpened}
 use Rattle.exports.specs.declared.SgStepped.{SgStepped}
 
@@ -11,14 +11,14 @@ use Rattle.exports.specs.declared.SgStepped.{SgStepped}
 abbrev pub sizes : ℕ → ℕ → ℕ → ℕ → Sizes
 sizes rows columns locks lanes = record { rows = rows; columns = columns; locks = locks; lanes = lanes }
 
--- what opening answers: its number and slot index
-abbrev pub as_finding : SgOpened → Finding
-as_finding r = record { number = r.number; index = r.index }
+-- a call of the desk, whose answer f gives as numbers
+abbrev pub door : {R S : Type 0} → (R → S) → Called R → Called S
+door f c = called (f c.answer) c.table
 
--- what a step answers: its number, its end and its value
-abbrev pub as_numbers : SgStepped → StepNumbers
-as_numbers r = record { number = r.number; end = r.end; value = r.value }
+-- the numbers of an opening
+abbrev pub open_numbers : Result ⊤ Refusal → SgOpened
+open_numbers r = record { number = number_of r; index = index_of r }
 
--- a slot index is below 64 x 8
-abbrev pub max_index : ℕ
-max_index = 512
+-- the numbers of a step
+abbrev pub step_numbers : Result (Option End) Refusal → SgStepped
+step_numbers r = record { number = number_of r; end = (end_of r).end; value = (end_of r).value }

@@ -3,14 +3,15 @@
 #![tactic(auto)]
 
 ghost use Rattle.std.specs.Prelude.{◌≡◌, ◌≤◌};
+ghost use Rattle.places.specs.Table.{max_slots};
 ghost use Rattle.machine.specs.Lane.{lane_numbers};
-ghost use Rattle.machine.specs.Desk.{opened_number, opening_number, after_opening, start_number, start_answer, after_start, step_numbers, step_answer, after_step};
+ghost use Rattle.machine.specs.Desk.{called, open_of, start_of, step_of, number_of, index_of};
 ghost use Rattle.standing.specs.Tables.{table};
-ghost use Rattle.desk.specs.Calls.{Calls};
-ghost use Rattle.exports.specs.Door.{as_finding, as_numbers, sizes, max_index};
+ghost use Rattle.exports.specs.Door.{sizes, door, open_numbers, step_numbers};
 
 use desk::{open, start, step};
-use machine::{Answer, Refusal, Request};
+use linear::{End, Request};
+use machine::Refusal;
 use places::Sizes;
 use records::LANE_NUMBERS;
 
@@ -31,10 +32,21 @@ pub struct SgStepped {
     pub value: u32,
 }
 
+fn sizes(rows: u32, columns: u32, locks: u32, lanes: u32) -> Sizes
+    ensures { result ≡ sizes rows columns locks lanes }
+{
+    Sizes {
+        rows,
+        columns,
+        locks,
+        lanes,
+    }
+}
+
 // No `From`: it could not ask that the index fits.
 fn opened_of(answer: Result<(), Refusal>) -> SgOpened
-    requires { (opened_number answer).index ≤ max_index }
-    ensures { as_finding result ≡ opened_number answer }
+    requires { index_of answer ≤ max_slots }
+    ensures { result ≡ open_numbers answer }
 {
     match answer {
         Ok(()) => SgOpened {
@@ -48,18 +60,18 @@ fn opened_of(answer: Result<(), Refusal>) -> SgOpened
     }
 }
 
-impl From<Result<Answer, Refusal>> for SgStepped {
-    ghost from_gives = { λ answer numbers. as_numbers numbers ≡ step_numbers answer };
+impl From<Result<Option<End>, Refusal>> for SgStepped {
+    ghost from_gives = { λ answer numbers. numbers ≡ step_numbers answer };
 
-    fn from(answer: Result<Answer, Refusal>) -> SgStepped {
+    fn from(answer: Result<Option<End>, Refusal>) -> SgStepped {
         let (number, end, value) = match answer {
-            Ok(Answer::GoesOn) => (0, 0, 0),
-            Ok(Answer::ReadNone) => (0, 1, 0),
-            Ok(Answer::ReadValue(value)) => (0, 2, value),
-            Ok(Answer::Deleted) => (0, 3, 0),
-            Ok(Answer::InsertYes) => (0, 4, 0),
-            Ok(Answer::InsertSearched) => (0, 5, 0),
-            Ok(Answer::InsertWalked) => (0, 6, 0),
+            Ok(None) => (0, 0, 0),
+            Ok(Some(End::ReadNone)) => (0, 1, 0),
+            Ok(Some(End::ReadValue(value))) => (0, 2, value),
+            Ok(Some(End::Deleted)) => (0, 3, 0),
+            Ok(Some(End::InsertYes)) => (0, 4, 0),
+            Ok(Some(End::InsertSearched)) => (0, 5, 0),
+            Ok(Some(End::InsertWalked)) => (0, 6, 0),
             Err(refusal) => (refusal.number(), 0, 0),
         };
         SgStepped { number, end, value }
@@ -76,7 +88,8 @@ fn started(
     lane: u32,
     request: Request,
 ) -> u32
-    ensures { Calls result (start_number (start_answer z (table slots.now words.now records.old path.now) lane request)) (table slots.now words.now records.new path.now) (after_start z (table slots.now words.now records.old path.now) lane request) }
+    ensures { called result (table slots.now words.now records.new path.now)
+        ≡ door number_of (start_of z (table slots.now words.now records.old path.now) lane request) }
 {
     match start(z, slots, words, records, path, lane, request) {
         Ok(()) => 0,
@@ -104,14 +117,10 @@ pub extern "C" fn sg_open(
     records: &mut [u32],
     path: &mut [u32],
 ) -> SgOpened
-    ensures { Calls (as_finding result) (opening_number (sizes rows columns locks lanes) (table slots.old words.old records.old path.old)) (table slots.new words.new records.new path.new) (after_opening (sizes rows columns locks lanes) (table slots.old words.old records.old path.old)) }
+    ensures { called result (table slots.new words.new records.new path.new)
+        ≡ door open_numbers (open_of (sizes rows columns locks lanes) (table slots.old words.old records.old path.old)) }
 {
-    let z = Sizes {
-        rows,
-        columns,
-        locks,
-        lanes,
-    };
+    let z = sizes(rows, columns, locks, lanes);
     opened_of(open(z, slots, words, records, path))
 }
 
@@ -129,15 +138,11 @@ pub extern "C" fn sg_start_read(
     lane: u32,
     key: u32,
 ) -> u32
-    ensures { Calls result (start_number (start_answer (sizes rows columns locks lanes) (table slots.old words.old records.old path.old) lane (Request.AskRead key))) (table slots.new words.new records.new path.new) (after_start (sizes rows columns locks lanes) (table slots.old words.old records.old path.old) lane (Request.AskRead key)) }
+    ensures { called result (table slots.new words.new records.new path.new)
+        ≡ door number_of (start_of (sizes rows columns locks lanes) (table slots.old words.old records.old path.old) lane (Request.Read key)) }
 {
-    let z = Sizes {
-        rows,
-        columns,
-        locks,
-        lanes,
-    };
-    started(z, slots, words, records, path, lane, Request::AskRead(key))
+    let z = sizes(rows, columns, locks, lanes);
+    started(z, slots, words, records, path, lane, Request::Read(key))
 }
 
 // Starts a delete of a key on a lane.
@@ -154,23 +159,11 @@ pub extern "C" fn sg_start_delete(
     lane: u32,
     key: u32,
 ) -> u32
-    ensures { Calls result (start_number (start_answer (sizes rows columns locks lanes) (table slots.old words.old records.old path.old) lane (Request.AskDelete key))) (table slots.new words.new records.new path.new) (after_start (sizes rows columns locks lanes) (table slots.old words.old records.old path.old) lane (Request.AskDelete key)) }
+    ensures { called result (table slots.new words.new records.new path.new)
+        ≡ door number_of (start_of (sizes rows columns locks lanes) (table slots.old words.old records.old path.old) lane (Request.Delete key)) }
 {
-    let z = Sizes {
-        rows,
-        columns,
-        locks,
-        lanes,
-    };
-    started(
-        z,
-        slots,
-        words,
-        records,
-        path,
-        lane,
-        Request::AskDelete(key),
-    )
+    let z = sizes(rows, columns, locks, lanes);
+    started(z, slots, words, records, path, lane, Request::Delete(key))
 }
 
 // Starts an insert of a key and a value on a lane.
@@ -188,14 +181,10 @@ pub extern "C" fn sg_start_insert(
     key: u32,
     value: u32,
 ) -> u32
-    ensures { Calls result (start_number (start_answer (sizes rows columns locks lanes) (table slots.old words.old records.old path.old) lane (Request.AskInsert key value))) (table slots.new words.new records.new path.new) (after_start (sizes rows columns locks lanes) (table slots.old words.old records.old path.old) lane (Request.AskInsert key value)) }
+    ensures { called result (table slots.new words.new records.new path.new)
+        ≡ door number_of (start_of (sizes rows columns locks lanes) (table slots.old words.old records.old path.old) lane (Request.Insert key value)) }
 {
-    let z = Sizes {
-        rows,
-        columns,
-        locks,
-        lanes,
-    };
+    let z = sizes(rows, columns, locks, lanes);
     started(
         z,
         slots,
@@ -203,7 +192,7 @@ pub extern "C" fn sg_start_insert(
         records,
         path,
         lane,
-        Request::AskInsert(key, value),
+        Request::Insert(key, value),
     )
 }
 
@@ -221,13 +210,9 @@ pub extern "C" fn sg_step(
     lane: u32,
     byte: u8,
 ) -> SgStepped
-    ensures { Calls (as_numbers result) (step_numbers (step_answer (sizes rows columns locks lanes) (table slots.old words.old records.old path.old) lane byte)) (table slots.new words.new records.new path.new) (after_step (sizes rows columns locks lanes) (table slots.old words.old records.old path.old) lane byte) }
+    ensures { called result (table slots.new words.new records.new path.new)
+        ≡ door step_numbers (step_of (sizes rows columns locks lanes) (table slots.old words.old records.old path.old) lane byte) }
 {
-    let z = Sizes {
-        rows,
-        columns,
-        locks,
-        lanes,
-    };
+    let z = sizes(rows, columns, locks, lanes);
     step(z, slots, words, records, path, lane, byte).into()
 }

@@ -13,10 +13,10 @@ use borrow.Author.Tests.{eq-eqb, ne_eqb}
 use Rattle.lists.specs.Below.{bit, sum_below}
 use Rattle.lists.proofs.Sums.{sum_change, sum_le, count_le}
 use Rattle.places.specs.declared.Sizes.{Sizes}
-use Rattle.machine.specs.Lane.{lane_at}
-use Rattle.machine.specs.Claims.{is_idle_op}
+use Rattle.machine.specs.Back.{lane_at}
+use Rattle.machine.specs.Stages.{is_idle}
 use Rattle.machine.specs.Standing.{Table, last_at}
-use Rattle.machine.specs.Desk.{after_step}
+use Rattle.machine.specs.Desk.{step_of}
 use Rattle.kept.specs.Runs.{Reached, Stood}
 use Rattle.kept.proofs.Kept.{kept}
 use Rattle.finish.specs.Finish.{Call, after_all, Accepted, Bytes, times_of, is_busy, unfinished, step_bound, Finishes}
@@ -31,11 +31,11 @@ use Rattle.finish.proofs.Progress.{Paid, chosen_lane, all_idle_lem, turn_pays}
 module _ (z : Sizes) where
   after_append : (t : Table) (xs ys : List Call) → after_all z t (xs ++ ys) ≡ after_all z (after_all z t xs) ys
   after_append t [] ys = refl
-  after_append t (x ∷ xs) ys = after_append (after_step z t x.lane x.byte) xs ys
+  after_append t (x ∷ xs) ys = after_append (step_of z t x.lane x.byte).table xs ys
 
   accepted_append : (t : Table) (xs ys : List Call) → Accepted z t xs → Accepted z (after_all z t xs) ys → Accepted z t (xs ++ ys)
   accepted_append t [] ys a b = b
-  accepted_append t (x ∷ xs) ys a b = (a.0, accepted_append (after_step z t x.lane x.byte) xs ys a.1 b)
+  accepted_append t (x ∷ xs) ys a b = (a.0, accepted_append (step_of z t x.lane x.byte).table xs ys a.1 b)
 
 bytes_append : (xs ys : List Call) → Bytes xs → Bytes ys → Bytes (xs ++ ys)
 bytes_append [] ys a b = b
@@ -65,7 +65,7 @@ total z t = sum_below z.lanes (λ j. weight z (lane_at t.lanes j))
 record Ends (z : Sizes) (t : Table) (cs : List Call) : Type 0 where
   accepted : Accepted z t cs
   bytes : Bytes cs
-  idle : (j : ℕ) → j < z.lanes → is_idle_op (lane_at (after_all z t cs).lanes j).op ≡ true
+  idle : (j : ℕ) → j < z.lanes → is_idle (lane_at (after_all z t cs).lanes j) ≡ true
   short : length cs ≤ total z t
   each : (j : ℕ) → j < z.lanes → times_of j cs ≤ weight z (lane_at t.lanes j)
 
@@ -91,7 +91,7 @@ module _ (z : Sizes) (t : Table) (i n : ℕ) (hi : i < z.lanes) (p : Paid z t i 
       record {
         accepted = accepted_append z t (alone n i) cs p.ran.accepted e.accepted;
         bytes = bytes_append (alone n i) cs (bytes_alone n i) e.bytes;
-        idle = λ j h. ap (λ (u : Table). is_idle_op (lane_at u.lanes j).op) (after_append z t (alone n i) cs) ∙ e.idle j h;
+        idle = λ j h. ap (λ (u : Table). is_idle (lane_at u.lanes j)) (after_append z t (alone n i) cs) ∙ e.idle j h;
         short = omega (arith, lighter, e.short, length-append (alone n i) cs, length-replicate {A = Call} n (record { lane = i; byte = 0 }));
         each = λ j h. elim (ℕ_discrete j i) [
           | yes q ↦ rw q (omega (arith, times_append i (alone n i) cs, times_own i n, e.each i hi, p.ran.falls))

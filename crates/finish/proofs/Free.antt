@@ -1,6 +1,6 @@
 -- The lock that the chosen lane waits for is free for it.
 -- Assumes nothing.
-use mathlib.Core.Path.{◌≡◌, ◌∙◌}
+use mathlib.Core.Path.{◌≡◌}
 use Prim.Native.Nat.{ℕ, ◌+◌, ◌*◌, ◌<◌}
 use native.Mathlib.Omega.{arith}
 use Rattle.lists.proofs.Sums.{sum_none}
@@ -9,15 +9,16 @@ use Rattle.places.specs.Table.{Fits}
 use Rattle.places.proofs.Limits.{ok_fits}
 use Rattle.locks.specs.declared.Grab.{Grab}
 use Rattle.locks.specs.Locks.{lock_at}
-use Rattle.paths.specs.Path.{last_of}
-use Rattle.machine.specs.declared.Act.TheVariants.{Try}
-use Rattle.machine.specs.Lane.{lane_at}
+use Rattle.locks.specs.Turns.{grab_urgency}
+use Rattle.locks.proofs.Turns.{Clear, urgent_clear}
+use Rattle.paths.specs.Path.{place_at, last_of}
+use Rattle.machine.specs.Back.{lane_at}
 use Rattle.machine.specs.Standing.{Table, last_at}
 use Rattle.kept.specs.Runs.{Stood}
+use Rattle.kept.proofs.Facts.{parts}
 use Rattle.kept.proofs.Checked.{StandsIn, standing_facts}
-use Rattle.finish.specs.Schedule.{rank_of, next_act, urgency, chosen}
-use Rattle.finish.proofs.Grabs.{Clear}
-use Rattle.finish.proofs.Highest.{no_count, no_flag}
+use Rattle.finish.specs.Schedule.{urgency, chosen}
+use Rattle.finish.proofs.Highest.{no_share}
 use Rattle.finish.proofs.Chosen.{chosen_most}
 use Rattle.finish.proofs.Taken.{ranges}
 
@@ -28,19 +29,10 @@ module _ (z : Sizes) (t : Table) (st : Stood z t) (k : ℕ) (hk : k < z.locks + 
   facts : StandsIn z t
   facts = (standing_facts z t st.stands).stands
 
-  -- the chosen lane waits for lock k and has not set its flag: it is clear
-  flag_clear : urgency z t (chosen z t) ≡ 2 * rank_of z k + 1 → (lock_at t.locks k).flag ≡ 0
+  -- no lane is more urgent
+  pub clear : (g : Grab) → urgency z t (chosen z t) ≡ grab_urgency z (lock_at z t.locks k) k g → Clear z g (lock_at z t.locks k)
   unfolding last_of
-  flag_clear u =
-      (facts.locks k hk).flag_is
-      ∙ sum_none z.lanes _ (λ j h. no_flag z fits k hk t.locks (lane_at t.lanes j) (last_at t j) (lane_at t.lanes j).stage (ranges z t st j h).1.1 (omega (arith, u, chosen_most z t fits.lanes_low j h)))
-
-  -- or has set it: no reader is left
-  count_clear : urgency z t (chosen z t) ≡ 2 * rank_of z k + 2 → (lock_at t.locks k).count ≡ 0
-  unfolding last_of
-  count_clear u =
-      (facts.locks k hk).count_is
-      ∙ sum_none z.lanes _ (λ j h. no_count z fits k hk t.locks (lane_at t.lanes j) (last_at t j) (lane_at t.lanes j).stage (ranges z t st j h).1.1 (omega (arith, u, chosen_most z t fits.lanes_low j h)))
-
-  pub clear : (g : Grab) → next_act z t (chosen z t) ≡ Try k g → Clear g (lock_at t.locks k)
-  clear g e = grind (arith, flag_clear, count_clear)
+  clear g e =
+      urgent_clear z (lock_at z t.locks k) k hk (λ f. parts z f (lane_at t.lanes) (place_at t.path) k) (facts.locks k hk) g (λ w f μ calm.
+      sum_none z.lanes _ (λ j h.
+      no_share z fits k t.locks g w (last_at t j) f μ calm (lane_at t.lanes j) (ranges z t st j h) (omega (arith, e, chosen_most z t fits.lanes_low j h))))

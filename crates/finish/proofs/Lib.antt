@@ -2,8 +2,6 @@ pub mod Search
 pub mod Aims
 pub mod Falls
 pub mod Heaviest
-pub mod Grabs
-pub mod Ranks
 pub mod Highest
 pub mod Chosen
 pub mod Taken

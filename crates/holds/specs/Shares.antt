@@ -3,7 +3,7 @@
 use Rattle.std.specs.Prelude.{ℕ, ◌+◌, ◌^◌, ◌≡◌, ◌≤◌, ◌<◌}
 use Rattle.places.specs.declared.Sizes.{Sizes}
 use Rattle.locks.specs.declared.Part.{Part}
-use Rattle.locks.specs.Locks.{part_flag, part_count, part_writes, part_reads}
+use Rattle.locks.specs.Parts.{part_flag, part_count, part_writes, part_reads}
 use Rattle.machine.specs.declared.Grip.{Grip}
 use Rattle.holds.specs.declared.shares.Shares.{Shares}
 use Rattle.machine.specs.Claims.{share}

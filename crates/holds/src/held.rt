@@ -1,18 +1,20 @@
 // A lane's part in the locks, by the place in the steps where it stands.
 ghost use Rattle.std.specs.Prelude.{◌≡◌, cond};
 ghost use Rattle.locks.specs.declared.Mode.TheVariants.{Reading, Writing};
-ghost use Rattle.locks.specs.declared.Part.TheVariants.{NoPart, Holds};
+ghost use Rattle.locks.specs.declared.Part.TheVariants.{NoPart, Tries, Holds};
 ghost use Rattle.paths.specs.Path.{other_row};
-ghost use Rattle.machine.specs.Steps.{mode_of, shared_rows, swing_rows, drops_two, sought_row};
-ghost use Rattle.machine.specs.Claims.{main_part, second_part, pass_grip, search_grip, walk_grip, both_rows, hit_rows, grip, grip_of};
+ghost use Rattle.machine.specs.Sides.{by_side};
+ghost use Rattle.machine.specs.Rules.{mode_of, shared_rows, swing_rows, drops_two, sought_row};
+ghost use Rattle.machine.specs.Claims.{main_part, second_part, pass_grip, search_grip, walk_grip, both_rows, hit_rows, grip};
+ghost use Rattle.machine.specs.Stages.{grip_at};
 
-use super::Seat;
-use locks::{Mode, Part};
+use super::TaskSeat;
+use locks::{Grab, Mode, Part, main_lock};
 use machine::{Grip, Op, Outcome, RowPart, Side, Stage, Walk};
-use rows::{drops_two, mode_of, shared_rows, sought_row, swing_rows};
+use rows::{drops_two, is_insert, mode_of, shared_rows, sought_row, swing_rows};
 
 // A part in main, and parts in two row locks.
-fn three_parts(main: Part, first: u32, one: Part, second: u32, two: Part) -> Grip
+pub(super) fn three_parts(main: Part, first: u32, one: Part, second: u32, two: Part) -> Grip
     ensures { result ≡ grip main first one second two }
 {
     Grip {
@@ -32,9 +34,10 @@ fn three_parts(main: Part, first: u32, one: Part, second: u32, two: Part) -> Gri
 fn main_part(op: Op) -> Part
     ensures { result ≡ main_part op }
 {
-    match op {
-        Op::Insert | Op::Again => Part::Holds(Mode::Writing),
-        _ => Part::NoPart,
+    if is_insert(op) {
+        Part::Holds(Mode::Writing)
+    } else {
+        Part::NoPart
     }
 }
 
@@ -45,14 +48,14 @@ fn second_part(shared: bool, part: Part) -> Part
     if shared { Part::NoPart } else { part }
 }
 
-impl Seat {
+impl TaskSeat {
     // These parts in the locks of the two home rows.
     fn pass_grip(self, one: Part, two: Part) -> Grip
-        ensures { result ≡ pass_grip self.z.sizes self.lane one two }
+        ensures { result ≡ pass_grip self.z.sizes self.task one two }
     {
-        let rows = self.z.rows_of(self.lane.key);
+        let rows = self.z.rows_of(self.task.key);
         three_parts(
-            main_part(self.lane.op),
+            main_part(self.task.op),
             self.z.lock_of(rows.first),
             one,
             self.z.lock_of(rows.second),
@@ -60,47 +63,42 @@ impl Seat {
         )
     }
 
-    // The first row held.
-    fn first_grip(self, two: Part) -> Grip
-        ensures { result ≡ pass_grip self.z.sizes self.lane (Holds (mode_of self.lane.op)) two }
-    {
-        self.pass_grip(Part::Holds(mode_of(self.lane.op)), two)
-    }
-
-    // The second row alone held.
-    fn second_grip(self) -> Grip
-        ensures { result ≡ pass_grip self.z.sizes self.lane NoPart (Holds (mode_of self.lane.op)) }
-    {
-        self.pass_grip(Part::NoPart, Part::Holds(mode_of(self.lane.op)))
-    }
-
     // Both rows held.
     fn both_rows(self) -> Grip
-        ensures { result ≡ both_rows self.z.sizes self.lane }
+        ensures { result ≡ both_rows self.z.sizes self.task }
     {
-        let held = Part::Holds(mode_of(self.lane.op));
-        self.first_grip(second_part(shared_rows(self.z, self.lane.key), held))
+        let held = Part::Holds(mode_of(self.task.op));
+        self.pass_grip(held, second_part(shared_rows(self.z, self.task.key), held))
     }
 
-    // A hit in the first row is written before the second is taken.
+    // A row that is looked through, or that has the key: before the second is taken, the first alone.
     fn hit_rows(self, side: Side) -> Grip
-        ensures { result ≡ hit_rows self.z.sizes self.lane side }
+        ensures { result ≡ hit_rows self.z.sizes self.task side }
     {
-        match side {
-            Side::First => self.first_grip(Part::NoPart),
-            Side::Second => self.both_rows(),
-        }
+        let held = Part::Holds(mode_of(self.task.op));
+        let second = second_part(shared_rows(self.z, self.task.key), held);
+        self.pass_grip(held, side.choose(Part::NoPart, second))
     }
 
-    // Both rows held, or the first alone where the second's lock is not to be released.
-    fn drop_grip(self, outcome: Outcome) -> Grip
-        ensures { result ≡ pass_grip self.z.sizes self.lane (Holds (mode_of self.lane.op)) (cond (drops_two (shared_rows self.z.sizes self.lane.key) outcome) (Holds (mode_of self.lane.op)) NoPart) }
+    // A row that is being taken, the second after the first.
+    fn take_grip(self, side: Side, grab: Grab) -> Grip
+        ensures { result ≡ pass_grip self.z.sizes self.task (by_side side (Tries grab) (Holds (mode_of self.task.op))) (by_side side NoPart (Tries grab)) }
     {
-        if drops_two(shared_rows(self.z, self.lane.key), outcome) {
-            self.first_grip(Part::Holds(mode_of(self.lane.op)))
-        } else {
-            self.first_grip(Part::NoPart)
-        }
+        let tries = Part::Tries(grab);
+        let held = Part::Holds(mode_of(self.task.op));
+        self.pass_grip(side.choose(tries, held), side.choose(Part::NoPart, tries))
+    }
+
+    // Both rows held, or the one that is left to release.
+    fn drop_grip(self, side: Side, outcome: Outcome) -> Grip
+        ensures { result ≡ pass_grip self.z.sizes self.task (by_side side (Holds (mode_of self.task.op)) NoPart) (by_side side (cond (drops_two (shared_rows self.z.sizes self.task.key) outcome) (Holds (mode_of self.task.op)) NoPart) (Holds (mode_of self.task.op))) }
+    {
+        let held = Part::Holds(mode_of(self.task.op));
+        let drops = drops_two(shared_rows(self.z, self.task.key), outcome);
+        self.pass_grip(
+            side.choose(held, Part::NoPart),
+            side.choose(second_part(!drops, held), held),
+        )
     }
 
     // This part in the lock of a row of the search.
@@ -140,6 +138,7 @@ impl Seat {
         )
     }
 
+    // Both rows of a swing held.
     fn swing_grip(self, w: Walk) -> Grip
         ensures { result ≡ walk_grip self.z.sizes self.last w (Holds Writing) (second_part (swing_rows self.z.sizes self.last w).shared (Holds Writing)) }
     {
@@ -148,16 +147,40 @@ impl Seat {
         self.walk_grip(w, held, second_part(rows.shared, held))
     }
 
-    // The lane's part in the locks.
-    #[tactic(auto, unfolding(machine::specs::Claims::grip_at))]
-    pub fn grip(self) -> Grip
-        ensures { result ≡ grip_of self.z.sizes self.lane self.last }
+    // One of them being taken, the second after the first.
+    fn take_swing_grip(self, side: Side, grab: Grab, w: Walk) -> Grip
+        ensures { result ≡ walk_grip self.z.sizes self.last w (by_side side (Tries grab) (Holds Writing)) (by_side side NoPart (Tries grab)) }
+    {
+        let tries = Part::Tries(grab);
+        let held = Part::Holds(Mode::Writing);
+        self.walk_grip(
+            w,
+            side.choose(tries, held),
+            side.choose(Part::NoPart, tries),
+        )
+    }
+
+    // Both held, or the one that is left to release.
+    fn drop_swing_grip(self, side: Side, w: Walk) -> Grip
+        ensures { result ≡ walk_grip self.z.sizes self.last w (by_side side (Holds Writing) NoPart) (by_side side (second_part (swing_rows self.z.sizes self.last w).shared (Holds Writing)) (Holds Writing)) }
     {
         let held = Part::Holds(Mode::Writing);
+        let rows = swing_rows(self.z, self.last, w);
+        self.walk_grip(
+            w,
+            side.choose(held, Part::NoPart),
+            side.choose(second_part(rows.shared, held), held),
+        )
+    }
+
+    // The lane's part in the locks.
+    #[tactic(auto, unfolding(machine::specs::Stages::item_at))]
+    pub(super) fn grip(self) -> Grip
+        ensures { result ≡ grip_at self.z.sizes self.task self.last self.task.stage }
+    {
         let read = Part::Holds(Mode::Reading);
-        let main = self.z.sizes.locks;
-        match self.lane.stage {
-            Stage::Idle | Stage::DropMain(_) => self.pass_grip(Part::NoPart, Part::NoPart),
+        let main = main_lock(self.z.sizes);
+        match self.task.stage {
             Stage::TakeMain(grab) => three_parts(
                 Part::Tries(grab),
                 main,
@@ -165,21 +188,17 @@ impl Seat {
                 main,
                 Part::NoPart,
             ),
-            Stage::TakeFirst(grab) => self.pass_grip(Part::Tries(grab), Part::NoPart),
-            Stage::SeekFirst(_) => self.first_grip(Part::NoPart),
-            Stage::TakeSecond(grab) => self.first_grip(Part::Tries(grab)),
-            Stage::SeekSecond(_) | Stage::RoomFirst(_) | Stage::RoomSecond(_) => self.both_rows(),
-            Stage::WriteHit(side, _) => self.hit_rows(side),
-            Stage::WriteRoom(..) | Stage::Pick => self.both_rows(),
-            Stage::DropFirst(outcome) => self.drop_grip(outcome),
-            Stage::DropSecond(_) => self.second_grip(),
+            Stage::Take(side, grab) => self.take_grip(side, grab),
+            Stage::Seek(side, _) | Stage::WriteHit(side, _) => self.hit_rows(side),
+            Stage::SeekRoom(..) | Stage::WriteRoom(..) | Stage::Pick => self.both_rows(),
+            Stage::Drop(side, outcome) => self.drop_grip(side, outcome),
+            Stage::DropMain(_) => self.pass_grip(Part::NoPart, Part::NoPart),
             Stage::TakeNext(grab, _) => self.next_grip(Part::Tries(grab)),
             Stage::LookNext(..) | Stage::PickNext(_) => self.next_grip(read),
             Stage::DropNext(found, _) => self.found_grip(found),
-            Stage::TakeLow(grab, w) => self.walk_grip(w, Part::Tries(grab), Part::NoPart),
-            Stage::TakeHigh(grab, w) => self.walk_grip(w, held, Part::Tries(grab)),
-            Stage::Swing(w) | Stage::DropLow(w) => self.swing_grip(w),
-            Stage::DropHigh(w) => self.walk_grip(w, Part::NoPart, held),
+            Stage::TakeSwing(side, grab, w) => self.take_swing_grip(side, grab, w),
+            Stage::Swing(w) => self.swing_grip(w),
+            Stage::DropSwing(side, w) => self.drop_swing_grip(side, w),
         }
     }
 }

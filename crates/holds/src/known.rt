@@ -1,15 +1,16 @@
 // What a lane claims of the slots in the rows it holds, by the place in the steps where it stands.
 ghost use Rattle.std.specs.Prelude.{◌≡◌};
 ghost use Rattle.paths.specs.Path.{other_row};
-ghost use Rattle.machine.specs.declared.SlotClaim.TheVariants.{NoClaim, HasKey, HasPair};
-ghost use Rattle.machine.specs.Steps.{row_on};
-ghost use Rattle.machine.specs.Claims.{no_claims, pass_claims, search_claims, drop_claims, late_claims, room_claims, found_claims, claims_of};
+ghost use Rattle.machine.specs.declared.SlotClaim.TheVariants.{NoClaim, HasKey, HasPair, HasRoom};
+ghost use Rattle.machine.specs.Rules.{row_on};
+ghost use Rattle.machine.specs.Claims.{no_claims, pass_claims, seek_claims, room_claims, search_claims, drop_claims, found_claims};
+ghost use Rattle.machine.specs.Stages.{claims_at};
 
-use super::Seat;
+use super::TaskSeat;
 use machine::{Claims, Outcome, RowClaim, Side, SlotClaim, Stage};
 use rows::row_on;
 
-fn no_claims() -> Claims
+pub(super) fn no_claims() -> Claims
     ensures { result ≡ no_claims }
 {
     Claims {
@@ -34,12 +35,12 @@ fn search_claims(row: u32, full: u32, slot: SlotClaim) -> Claims
     }
 }
 
-impl Seat {
+impl TaskSeat {
     // Of the first and second home row: columns that lack the key, and columns that are full.
     fn pass_claims(self, lacking: (u32, u32), full: (u32, u32), slot: SlotClaim) -> Claims
-        ensures { result ≡ pass_claims self.z.sizes self.lane lacking.0 lacking.1 full.0 full.1 slot }
+        ensures { result ≡ pass_claims self.z.sizes self.task lacking.0 lacking.1 full.0 full.1 slot }
     {
-        let rows = self.z.rows_of(self.lane.key);
+        let rows = self.z.rows_of(self.task.key);
         Claims {
             one: RowClaim {
                 row: rows.first,
@@ -57,7 +58,7 @@ impl Seat {
 
     // The same of both home rows, and no slot.
     fn row_claims(self, lacking: (u32, u32), full: (u32, u32)) -> Claims
-        ensures { result ≡ pass_claims self.z.sizes self.lane lacking.0 lacking.1 full.0 full.1 NoClaim }
+        ensures { result ≡ pass_claims self.z.sizes self.task lacking.0 lacking.1 full.0 full.1 NoClaim }
     {
         self.pass_claims(lacking, full, SlotClaim::NoClaim)
     }
@@ -70,55 +71,51 @@ impl Seat {
 
     // A slot to overwrite has the key.
     fn key_claims(self, side: Side, column: u32) -> Claims
-        ensures { result ≡ pass_claims self.z.sizes self.lane 0 0 0 0 (HasKey (row_on self.z.sizes self.lane.key side) column) }
+        ensures { result ≡ pass_claims self.z.sizes self.task 0 0 0 0 (HasKey (row_on self.z.sizes self.task.key side) column) }
     {
-        let row = row_on(self.z, self.lane.key, side);
+        let row = row_on(self.z, self.task.key, side);
         self.pass_claims((0, 0), (0, 0), SlotClaim::HasKey(row, column))
     }
 
     // A read's hit has the key and the value seen.
     fn pair_claims(self, side: Side, column: u32, value: u32) -> Claims
-        ensures { result ≡ pass_claims self.z.sizes self.lane 0 0 0 0 (HasPair (row_on self.z.sizes self.lane.key side) column value) }
+        ensures { result ≡ pass_claims self.z.sizes self.task 0 0 0 0 (HasPair (row_on self.z.sizes self.task.key side) column value) }
     {
-        let row = row_on(self.z, self.lane.key, side);
+        let row = row_on(self.z, self.task.key, side);
         self.pass_claims((0, 0), (0, 0), SlotClaim::HasPair(row, column, value))
     }
 
-    // A slot to fill is empty, its key in neither home row, and the slots before it are full.
-    fn room_claims(self, side: Side, column: u32) -> Claims
-        ensures { result ≡ room_claims self.z.sizes self.lane side column }
+    // A row that is looked through for the key lacks it so far.
+    fn seek_claims(self, side: Side, column: u32) -> Claims
+        ensures { result ≡ seek_claims self.z.sizes self.task side column }
     {
         let w = self.z.sizes.columns;
-        let room = SlotClaim::HasRoom(row_on(self.z, self.lane.key, side), column);
-        match side {
-            Side::First => self.pass_claims((w, w), (column, 0), room),
-            Side::Second => self.pass_claims((w, w), (w, column), room),
-        }
+        self.row_claims((side.choose(column, w), side.choose(0, column)), (0, 0))
     }
 
-    // Before the release of the first row.
-    fn drop_claims(self, outcome: Outcome) -> Claims
-        ensures { result ≡ drop_claims self.z.sizes self.lane outcome }
+    // The key is in neither home row, and the slots before this one are full.
+    fn room_claims(self, side: Side, column: u32, slot: SlotClaim) -> Claims
+        ensures { result ≡ room_claims self.z.sizes self.task side column slot }
     {
         let w = self.z.sizes.columns;
-        match outcome {
-            Outcome::Hit(side, column, value) => self.pair_claims(side, column, value),
-            Outcome::Wrote(_) | Outcome::Filled => no_claims(),
-            Outcome::Miss => self.row_claims((w, w), (0, 0)),
-            Outcome::Picked | Outcome::Stuck => self.row_claims((w, w), (w, w)),
-        }
+        self.pass_claims(
+            (w, w),
+            (side.choose(column, w), side.choose(0, column)),
+            slot,
+        )
     }
 
-    // Before the release of the second row.
-    fn late_claims(self, outcome: Outcome) -> Claims
-        ensures { result ≡ late_claims self.z.sizes self.lane outcome }
+    // Of the rows that are still to be released.
+    fn drop_claims(self, side: Side, outcome: Outcome) -> Claims
+        ensures { result ≡ drop_claims self.z.sizes self.task side outcome }
     {
         let w = self.z.sizes.columns;
+        let both = (side.choose(w, 0), w);
         match outcome {
-            Outcome::Hit(side, column, value) => self.pair_claims(side, column, value),
+            Outcome::Hit(hit, column, value) => self.pair_claims(hit, column, value),
             Outcome::Wrote(_) | Outcome::Filled => no_claims(),
-            Outcome::Miss => self.row_claims((0, w), (0, 0)),
-            Outcome::Picked | Outcome::Stuck => self.row_claims((0, w), (0, w)),
+            Outcome::Miss => self.row_claims(both, (0, 0)),
+            Outcome::Picked | Outcome::Stuck => self.row_claims(both, both),
         }
     }
 
@@ -133,23 +130,28 @@ impl Seat {
         }
     }
 
+    // A slot to fill is empty.
+    fn empty_claims(self, side: Side, column: u32) -> Claims
+        ensures { result ≡ room_claims self.z.sizes self.task side column (HasRoom (row_on self.z.sizes self.task.key side) column) }
+    {
+        let row = row_on(self.z, self.task.key, side);
+        self.room_claims(side, column, SlotClaim::HasRoom(row, column))
+    }
+
     // All that the lane claims.
-    #[tactic(auto, unfolding(machine::specs::Claims::claims_at))]
-    pub fn claims(self) -> Claims
-        ensures { result ≡ claims_of self.z.sizes self.lane self.last }
+    #[tactic(auto, unfolding(machine::specs::Stages::item_at))]
+    pub(super) fn claims(self) -> Claims
+        ensures { result ≡ claims_at self.z.sizes self.task self.last self.task.stage }
     {
         let w = self.z.sizes.columns;
-        match self.lane.stage {
-            Stage::SeekFirst(column) => self.row_claims((column, 0), (0, 0)),
-            Stage::TakeSecond(_) => self.row_claims((w, 0), (0, 0)),
-            Stage::SeekSecond(column) => self.row_claims((w, column), (0, 0)),
-            Stage::RoomFirst(column) => self.row_claims((w, w), (column, 0)),
-            Stage::RoomSecond(column) => self.row_claims((w, w), (w, column)),
+        match self.task.stage {
+            Stage::Take(side, _) => self.seek_claims(side, 0),
+            Stage::Seek(side, column) => self.seek_claims(side, column),
+            Stage::SeekRoom(side, column) => self.room_claims(side, column, SlotClaim::NoClaim),
             Stage::WriteHit(side, column) => self.key_claims(side, column),
-            Stage::WriteRoom(side, column) => self.room_claims(side, column),
+            Stage::WriteRoom(side, column) => self.empty_claims(side, column),
             Stage::Pick => self.row_claims((w, w), (w, w)),
-            Stage::DropFirst(outcome) => self.drop_claims(outcome),
-            Stage::DropSecond(outcome) => self.late_claims(outcome),
+            Stage::Drop(side, outcome) => self.drop_claims(side, outcome),
             Stage::LookNext(column, _) => self.next_claims(column),
             Stage::PickNext(_) => self.next_claims(w),
             Stage::DropNext(found, _) => self.found_claims(found),

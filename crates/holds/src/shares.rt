@@ -4,7 +4,7 @@ ghost use Rattle.locks.specs.declared.Part.{Part};
 ghost use Rattle.machine.specs.Claims.{on_lock, share};
 ghost use Rattle.holds.specs.Shares.{Measures, MeasuresLow, SumsFit, added, shares_of};
 
-use locks::Part;
+use locks::{Part, main_lock};
 use machine::Grip;
 use places::Sizes;
 use std::ops::Add;
@@ -48,12 +48,13 @@ fn share<F: Fn(Part) -> u32>(z: Sizes, g: Grip, k: u32, measure: F) -> u32
     requires low { MeasuresLow (F.post measure) }
     ensures { (f : Part → ℕ) → Measures (F.post measure) f → result ≡ share z f g k }
 {
-    on_lock(k, z.locks, measure(g.main))
+    on_lock(k, main_lock(z), measure(g.main))
         + on_lock(k, g.one.lock, measure(g.one.part))
         + on_lock(k, g.two.lock, measure(g.two.part))
 }
 
 // What a lane adds to lock k.
+#[tactic(auto, using(locks::proofs::Measures::flag_low, locks::proofs::Measures::count_low))]
 pub fn shares_of(z: Sizes, g: Grip, k: u32) -> Shares
     ensures { result ≡ shares_of z g k }
 {

@@ -4,16 +4,17 @@
 
 ghost use Rattle.machine.specs.Steps.{step_lane};
 ghost use Rattle.acts.specs.Lent.{memory_of};
-ghost use Rattle.lanes.specs.Fitting.{StepFits, Steps};
+ghost use Rattle.lanes.specs.Fitting.{LaneFits, Steps};
 ghost use Rattle.in_place.specs.InPlace.{Left};
 
 use acts::LentMemory;
 use lanes::step_lane;
-use machine::{Answer, Lane, Moved};
+use linear::End;
+use machine::{Lane, Moved};
 
 // One step of a lane where it lies.
-pub fn step_in_place(m: &mut LentMemory, lane: &mut Lane, byte: u8) -> Answer
-    requires { StepFits m.old.z.sizes (memory_of m.old) lane.old }
+pub fn step_in_place(m: &mut LentMemory, lane: &mut Lane, byte: u8) -> Option<End>
+    requires { LaneFits m.old.z.sizes (memory_of m.old) lane.old }
     ensures { Left result lane.new m.old m.new (step_lane m.old.z.sizes (memory_of m.old) lane.old byte) }
 {
     let s = step_lane(m, *lane, byte);
@@ -23,7 +24,7 @@ pub fn step_in_place(m: &mut LentMemory, lane: &mut Lane, byte: u8) -> Answer
 
 // The same for a lane by value: a local, lent for the step and read after it.
 pub fn step_local(m: &mut LentMemory, lane: Lane, byte: u8) -> Moved
-    requires { StepFits m.old.z.sizes (memory_of m.old) lane }
+    requires { LaneFits m.old.z.sizes (memory_of m.old) lane }
     ensures { Steps result m.old m.new (step_lane m.old.z.sizes (memory_of m.old) lane byte) }
 {
     let mut l = lane;

@@ -7,16 +7,31 @@ ghost use Rattle.in_place_tapes.specs.Tape.{small_sizes, first_lane, Stands};
 
 use acts::LentMemory;
 use in_place::step_local;
+use linear::End;
 use locks::Mode;
-use machine::{Answer, Lane, Op, Stage};
+use machine::{Lane, Op, Stage, Task};
+use paths::{PLACE_NUMBERS, SPARE_PLACES};
 use places::{Layout, Sizes};
+use slots::SLOT_NUMBERS;
 use std::io;
 
-#[tactic(auto, unfolding(crate::specs::Tape::after_steps))]
+// The sizes of the whole case, and how many numbers its slots and its path take.
+const SMALL: Sizes = Sizes {
+    rows: 3,
+    columns: 1,
+    locks: 3,
+    lanes: 1,
+};
+
+const SLOT_WORDS: usize = (SMALL.rows * SMALL.columns) as usize * SLOT_NUMBERS;
+
+const PATH_WORDS: usize = (SMALL.rows + SPARE_PLACES) as usize * PLACE_NUMBERS;
+
+#[tactic(auto, unfolding(crate::specs::Tape::after_steps, places::specs::Table::slot_count))]
 fn main(rt: HostRuntime) -> io::Result<()> {
-    let mut slots = [0u32; 9];
+    let mut slots = [0u32; SLOT_WORDS];
     let mut locks = [0u32; 8];
-    let mut path = [0u32; 15];
+    let mut path = [0u32; PATH_WORDS];
     insert_alone(&rt, &mut slots, &mut locks, &mut path)?;
     for n in &slots {
         println!(rt; "{n}")?;
@@ -24,15 +39,15 @@ fn main(rt: HostRuntime) -> io::Result<()> {
     Ok(())
 }
 
-fn say_answer(rt: &impl Print, a: Answer) -> io::Result<()> {
+fn say_answer(rt: &impl Print, a: Option<End>) -> io::Result<()> {
     let text = match a {
-        Answer::GoesOn => "goes on",
-        Answer::ReadNone => "read none",
-        Answer::ReadValue(_) => "read",
-        Answer::Deleted => "delete",
-        Answer::InsertYes => "insert yes",
-        Answer::InsertSearched => "insert searched",
-        Answer::InsertWalked => "insert walked",
+        None => "goes on",
+        Some(End::ReadNone) => "read none",
+        Some(End::ReadValue(_)) => "read",
+        Some(End::Deleted) => "delete",
+        Some(End::InsertYes) => "insert yes",
+        Some(End::InsertSearched) => "insert searched",
+        Some(End::InsertWalked) => "insert walked",
     };
     println!(rt; "{text}")
 }
@@ -40,25 +55,18 @@ fn say_answer(rt: &impl Print, a: Answer) -> io::Result<()> {
 fn small_layout() -> Layout
     ensures { result.sizes ≡ small_sizes }
 {
-    Layout {
-        sizes: Sizes {
-            rows: 3,
-            columns: 1,
-            locks: 3,
-            lanes: 1,
-        },
-    }
+    Layout { sizes: SMALL }
 }
 
 fn first_lane() -> Lane
     ensures { result ≡ first_lane }
 {
-    Lane {
+    Lane::Busy(Task {
         op: Op::Insert,
         key: 1024,
         value: 7,
-        stage: Stage::TakeMain(Mode::Writing.grab()),
-    }
+        stage: Stage::TakeMain(Mode::Writing.grab(small_layout().sizes)),
+    })
 }
 
 // The insert takes 11 + 2W steps.

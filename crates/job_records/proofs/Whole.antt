@@ -9,7 +9,7 @@ use lib.ListN.{length, get_or}
 use lib.Dec.{leb, ltb}
 use borrow.Author.Tests.{ltb-true}
 use Rattle.std.specs.Prelude.{None, Some, Result, Ok, Err}
-use Rattle.machine.specs.declared.Request.TheVariants.{AskRead, AskDelete, AskInsert}
+use Rattle.linear.specs.declared.Request.{Request}
 use Rattle.job_records.specs.declared.Kind.{Kind}
 use Rattle.job_records.specs.declared.Kind.TheVariants.{Open, Read, Delete, Insert, Step, End}
 use Rattle.job_records.specs.declared.UnknownKind.{UnknownKind}
@@ -21,9 +21,9 @@ use Rattle.job_records.specs.Records.{kind_of, body_length, body_at, record_of, 
 -- how long each record is
 abbrev pub record_length : Record → ℕ
 record_length (Opens z) = 5
-record_length (Starts j (AskRead key)) = 6
-record_length (Starts j (AskDelete key)) = 6
-record_length (Starts j (AskInsert key value)) = 10
+record_length (Starts j (Request.Read key)) = 6
+record_length (Starts j (Request.Delete key)) = 6
+record_length (Starts j (Request.Insert key value)) = 10
 record_length (Steps j byte) = 3
 record_length Ends = 1
 
@@ -59,9 +59,9 @@ item_long s at taken = by_byte (leb (length s) at) refl
 
 a_byte_long : (item : Record) → 0 < record_length item
 a_byte_long (Opens z) = omega arith
-a_byte_long (Starts j (AskRead key)) = omega arith
-a_byte_long (Starts j (AskDelete key)) = omega arith
-a_byte_long (Starts j (AskInsert key value)) = omega arith
+a_byte_long (Starts j (Request.Read key)) = omega arith
+a_byte_long (Starts j (Request.Delete key)) = omega arith
+a_byte_long (Starts j (Request.Insert key value)) = omega arith
 a_byte_long (Steps j byte) = omega arith
 a_byte_long Ends = omega arith
 

@@ -1,7 +1,7 @@
 -- 01, "Job file and print": the records of a job. A job is a list of bytes.
 -- Assumes nothing.
 use Rattle.std.specs.Prelude.{ℕ, ◌+◌, ◌*◌, ◌-◌, List, cond, length, get_or, ltb, leb, eqb, Option, None, Some, Result, Ok, Err}
-use Rattle.machine.specs.declared.Request.TheVariants.{AskRead, AskDelete, AskInsert}
+use Rattle.linear.specs.declared.Request.{Request}
 use Rattle.job_records.specs.declared.Kind.{Kind}
 use Rattle.job_records.specs.declared.Kind.TheVariants.{Open, Read, Delete, Insert, Step, End}
 use Rattle.job_records.specs.declared.UnknownKind.{UnknownKind}
@@ -41,11 +41,11 @@ abbrev pub body_at : List ℕ → ℕ → Kind → Record
 -- "1 sizes: H, W, L, N."
 body_at s at Open = Opens (record { rows = byte_at s at 1; columns = byte_at s at 2; locks = byte_at s at 3; lanes = byte_at s at 4 })
 -- "2 read: lane, key (4)."
-body_at s at Read = Starts (byte_at s at 1) (AskRead (number s (at + 2)))
+body_at s at Read = Starts (byte_at s at 1) (Request.Read (number s (at + 2)))
 -- "3 delete: lane, key."
-body_at s at Delete = Starts (byte_at s at 1) (AskDelete (number s (at + 2)))
+body_at s at Delete = Starts (byte_at s at 1) (Request.Delete (number s (at + 2)))
 -- "4 insert: lane, key, value (4)."
-body_at s at Insert = Starts (byte_at s at 1) (AskInsert (number s (at + 2)) (number s (at + 6)))
+body_at s at Insert = Starts (byte_at s at 1) (Request.Insert (number s (at + 2)) (number s (at + 6)))
 -- "5 step: lane, byte."
 body_at s at Step = Steps (byte_at s at 1) (byte_at s at 2)
 -- "6 end."

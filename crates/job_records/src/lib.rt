@@ -1,12 +1,15 @@
 // The records of a job: a byte of kind, then a body whose length the kind fixes. What stands at an offset, and the offset after it.
-// Uses `places` and `machine`.
+// Uses `linear` and `places`.
 #![tactic(auto)]
+
+mod reader;
 
 ghost use Rattle.std.specs.Prelude.{◌≡◌, ◌+◌, ◌<◌, length};
 ghost use Rattle.job_records.specs.Records.{number, kind_of, body_length, body_at, record_at};
 
-use machine::Request;
+use linear::Request;
 use places::Sizes;
+pub use reader::Reader;
 
 #[derive(Clone, Copy)]
 pub enum Record {
@@ -88,9 +91,9 @@ impl Kind {
                 locks: byte(3),
                 lanes: byte(4),
             }),
-            Kind::Read => Record::Starts(byte(1), Request::AskRead(number(2))),
-            Kind::Delete => Record::Starts(byte(1), Request::AskDelete(number(2))),
-            Kind::Insert => Record::Starts(byte(1), Request::AskInsert(number(2), number(6))),
+            Kind::Read => Record::Starts(byte(1), Request::Read(number(2))),
+            Kind::Delete => Record::Starts(byte(1), Request::Delete(number(2))),
+            Kind::Insert => Record::Starts(byte(1), Request::Insert(number(2), number(6))),
             Kind::Step => Record::Steps(byte(1), job[at + 2]),
             Kind::End => Record::Ends,
         }

@@ -12,10 +12,18 @@ use Rattle.std.specs.Prelude.{Option, None, Some, Result, Ok, Err}
 use Rattle.std.specs.Option.{option_map, ok_or}
 use Rattle.places.specs.declared.Sizes.{Sizes}
 use Rattle.places.specs.declared.Layout.{Layout}
-use Rattle.places.specs.Table.{sizes_ok, slot_count}
+use Rattle.places.specs.Table.{sizes_ok}
 use Rattle.places.proofs.Limits.{slots_few, fits_ok}
+use Rattle.slots.specs.declared.TheConstants.{MAX_SLOT_WORDS}
+use Rattle.slots.specs.Slot.{slot_words}
+use Rattle.paths.specs.declared.TheConstants.{MAX_PATH_WORDS}
+use Rattle.paths.specs.Path.{path_words}
+use Rattle.locks.specs.Locks.{lock_words, max_lock_words}
+use Rattle.locks.proofs.Views.{words_most}
 use Rattle.machine.specs.declared.Refusal.TheVariants.{BadSizes}
+use Rattle.machine.specs.Lane.{lane_words}
 use Rattle.machine.specs.Standing.{Table}
+use Rattle.records.specs.declared.TheConstants.{MAX_LANE_WORDS}
 use Rattle.standing.specs.Tables.{table}
 use Rattle.kept.specs.Runs.{Stood}
 use Rattle.job_records.specs.declared.Record.{Record}
@@ -23,16 +31,18 @@ use Rattle.job_records.specs.declared.Record.TheVariants.{Opens}
 use Rattle.job_records.specs.declared.Taken.{Taken}
 use Rattle.job_records.specs.Records.{record_at}
 use Rattle.job_records.proofs.Whole.{record_length, item_long}
-use Rattle.reader.specs.declared.Reader.{Reader}
-use Rattle.reader.specs.Finds.{Finds}
-use Rattle.reader.proofs.Found.{found_some}
-use Rattle.prints.specs.declared.Out.{Out}
+use Rattle.job_records.specs.declared.reader.Reader.{Reader}
+use Rattle.job_records.specs.Finds.{Finds}
+use Rattle.job_records.proofs.Found.{found_some}
+use Rattle.prints.specs.declared.text.Out.{Out}
 use Rattle.prints.specs.Put.{Put, Puts}
 use Rattle.prints.proofs.Puts.{put_then, puts_none, puts_then}
-use Rattle.lines.specs.Lines.{sizes_line}
+use Rattle.prints.specs.Lines.{sizes_line}
+use Rattle.prints.specs.declared.lines.TheConstants.{REFUSAL_BYTES}
+use Rattle.jobs.specs.declared.TheConstants.{OUT_BYTES}
 use Rattle.jobs.specs.declared.stop.Cause.TheVariants.{Malformed, Refused}
 use Rattle.jobs.specs.declared.stop.Stop.{Stop}
-use Rattle.jobs.specs.Job.{max_bytes, out_bytes, zeros, job_table, print_from, opened_print, job_print, print_of}
+use Rattle.jobs.specs.Job.{max_bytes, zeros, job_table, print_from, opened_print, job_print, print_of}
 use Rattle.jobs.specs.Obeys.{stop_line, last_line, Said}
 use Rattle.jobs.specs.Prints.{Prints}
 use Rattle.jobs.proofs.Fresh.{fresh_stood, fresh_is}
@@ -46,21 +56,22 @@ front (suc n) (suc m) h = ap (λ (xs : List ℕ). 0 ∷ xs) (front n m (omega ar
 
 -- the parts of memory of the largest sizes that these sizes call for
 abbrev pub lent : ℕ → ℕ → ℕ → ℕ → Table
-lent a b c d = table (take a (replicate 1536 0)) (take b (replicate 130 0)) (take c (replicate 112 0)) (take d (replicate 198 0))
+lent a b c d =
+    table (take a (replicate MAX_SLOT_WORDS 0)) (take b (replicate max_lock_words 0)) (take c (replicate MAX_LANE_WORDS 0)) (take d (replicate MAX_PATH_WORDS 0))
 
-module _ (z : Layout) (count : ℕ) (e : count ≡ slot_count z.sizes) where
-  lent_is : lent (count * 3) ((z.sizes.locks + 1) * 2) (z.sizes.lanes * 14) ((z.sizes.rows + 2) * 3) ≡ job_table z.sizes
+module _ (z : Layout) (a b c d : ℕ) (ea : a ≡ slot_words z.sizes) (eb : b ≡ lock_words z.sizes) (ec : c ≡ lane_words z.sizes) (ed : d ≡ path_words z.sizes) where
+  lent_is : lent a b c d ≡ job_table z.sizes
   unfolding zeros
   lent_is =
-      (λ k. record {
-        slots = (front (count * 3) 1536 (omega (arith, slots_few z.sizes z.fits)) ∙ ap (λ (n : ℕ). replicate (n * 3) 0) e) k;
-        locks = front ((z.sizes.locks + 1) * 2) 130 (omega (arith, z.fits.locks_high, z.fits.rows_high)) k;
-        lanes = front (z.sizes.lanes * 14) 112 (omega (arith, z.fits.lanes_high)) k;
-        path = front ((z.sizes.rows + 2) * 3) 198 (omega (arith, z.fits.rows_high)) k;
+      rw (ea, eb, ec, ed) (λ k. record {
+        slots = front (slot_words z.sizes) MAX_SLOT_WORDS (omega (arith, slots_few z.sizes z.fits)) k;
+        locks = front (lock_words z.sizes) max_lock_words (words_most z.sizes z.fits) k;
+        lanes = front (lane_words z.sizes) MAX_LANE_WORDS (omega (arith, z.fits.lanes_high)) k;
+        path = front (path_words z.sizes) MAX_PATH_WORDS (omega (arith, z.fits.rows_high)) k;
       })
       ∙ sym (fresh_is z.sizes (fits_ok z.sizes z.fits))
 
-  pub lent_stood : Stood z.sizes (lent (count * 3) ((z.sizes.locks + 1) * 2) (z.sizes.lanes * 14) ((z.sizes.rows + 2) * 3))
+  pub lent_stood : Stood z.sizes (lent a b c d)
   lent_stood = rw lent_is (fresh_stood z.sizes (fits_ok z.sizes z.fits))
 
 -- ---- the sizes
@@ -88,16 +99,17 @@ module _ (sizes : Sizes) (stop : Stop) (made : Option Layout) (tried : Result La
     unfolding opened_print
     sizes_bad f i c p = let w = not_made f i in rw (w.0, w.1) (record { front = []; puts = puts_none out; joins = rw (c, p) })
 
-    pub sizes_good : {A : Type 0} (z : Layout) (result : Result A Stop) (mid out' : Out) (count : ℕ) → tried ≡ Ok z → count ≡ slot_count z.sizes → Puts out mid (sizes_line z.sizes)
-        → Said result mid out' (print_from (length s) z.sizes (lent (count * 3) ((z.sizes.locks + 1) * 2) (z.sizes.lanes * 14) ((z.sizes.rows + 2) * 3)) s at) → Said result out out' (opened_print sizes s at)
+    pub sizes_good : {A : Type 0} (z : Layout) (result : Result A Stop) (mid out' : Out) (a b c d : ℕ) → tried ≡ Ok z
+        → a ≡ slot_words z.sizes → b ≡ lock_words z.sizes → c ≡ lane_words z.sizes → d ≡ path_words z.sizes → Puts out mid (sizes_line z.sizes)
+        → Said result mid out' (print_from (length s) z.sizes (lent a b c d) s at) → Said result out out' (opened_print sizes s at)
     unfolding opened_print
-    sizes_good z result mid out' count i k p d =
+    sizes_good z result mid out' a b c d i ea eb ec ed p said =
         let w = is_made z i in
         rw (w.0, ← w.1)
         (record {
-          front = sizes_line z.sizes ++ d.front;
-          puts = puts_then p d.puts;
-          joins = append_assoc (sizes_line z.sizes) d.front (last_line result) ∙ ap (λ (xs : List ℕ). sizes_line z.sizes ++ xs) (subst (λ (t : Table). d.front ++ last_line result ≡ print_from (length s) z.sizes t s at) (lent_is z count k) d.joins);
+          front = sizes_line z.sizes ++ said.front;
+          puts = puts_then p said.puts;
+          joins = append_assoc (sizes_line z.sizes) said.front (last_line result) ∙ ap (λ (xs : List ℕ). sizes_line z.sizes ++ xs) (subst (λ (t : Table). said.front ++ last_line result ≡ print_from (length s) z.sizes t s at) (lent_is z a b c d ea eb ec ed) said.joins);
         })
 
 -- ---- the first record
@@ -127,7 +139,7 @@ first_sizes {reader} {after} {s} z new f i =
 
 -- ---- the whole
 
-pub long_print : (s : List ℕ) (stop : Stop) {next at : ℕ} {was bytes out : List ℕ} → max_bytes < length s → (stop.cause ≡ Malformed) × (stop.at ≡ max_bytes) → out_bytes ≤ length was → at ≡ 0 → bytes ≡ was
+pub long_print : (s : List ℕ) (stop : Stop) {next at : ℕ} {was bytes out : List ℕ} → max_bytes < length s → (stop.cause ≡ Malformed) × (stop.at ≡ max_bytes) → OUT_BYTES ≤ length was → at ≡ 0 → bytes ≡ was
     → Put next at bytes out (stop_line stop) → Prints next was out (print_of s)
 unfolding print_of
 long_print s stop h e room i k p = printed s room (rw (lt-ltb max_bytes (length s) h) (rw (e.0, e.1, i, k) at p))
@@ -137,8 +149,8 @@ unfolding print_of
 short_said s h p = rw (le-ltb max_bytes (length s) h) p
 
 -- one line more has room, and with the last line the print is whole
-module _ {A : Type 0} {d : Result A Stop} {was mid : Out} (s : List ℕ) (p : Said d was mid (print_of s)) (start : was.at ≡ 0) (room : out_bytes ≤ length was.bytes.now) where
-  pub last_room_lem : mid.at + 33 ≤ length mid.bytes.now
+module _ {A : Type 0} {d : Result A Stop} {was mid : Out} (s : List ℕ) (p : Said d was mid (print_of s)) (start : was.at ≡ 0) (room : OUT_BYTES ≤ length was.bytes.now) where
+  pub last_room_lem : mid.at + REFUSAL_BYTES ≤ length mid.bytes.now
   last_room_lem = omega (arith, p.puts.put.offset, p.puts.long, ap length p.joins, length-append p.front (last_line d), line_fits s)
 
   pub whole_print : {next at : ℕ} {bytes out : List ℕ} → at ≡ mid.at → bytes ≡ mid.bytes.now → Put next at bytes out (last_line d) → Prints next was.bytes.now out (print_of s)

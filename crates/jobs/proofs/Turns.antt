@@ -15,12 +15,14 @@ use Rattle.machine.specs.Standing.{Table}
 use Rattle.job_records.specs.declared.Record.{Record}
 use Rattle.job_records.specs.declared.Taken.{Taken}
 use Rattle.job_records.specs.Records.{record_at}
-use Rattle.reader.specs.declared.Reader.{Reader}
-use Rattle.reader.specs.Finds.{Finds}
-use Rattle.reader.proofs.Found.{found_some, found_none}
-use Rattle.prints.specs.declared.Out.{Out}
+use Rattle.job_records.specs.declared.reader.Reader.{Reader}
+use Rattle.job_records.specs.Finds.{Finds}
+use Rattle.job_records.proofs.Found.{found_some, found_none}
+use Rattle.prints.specs.declared.text.Out.{Out}
 use Rattle.prints.specs.Put.{Puts}
 use Rattle.prints.proofs.Puts.{puts_none, puts_then}
+use Rattle.prints.specs.declared.lines.TheConstants.{SIZES_BYTES}
+use Rattle.jobs.specs.declared.TheConstants.{PRINT_RATE}
 use Rattle.jobs.specs.declared.stop.Cause.TheVariants.{Malformed}
 use Rattle.jobs.specs.declared.stop.Stop.{Stop}
 use Rattle.jobs.specs.Job.{Came, came_of, print_from}
@@ -33,12 +35,12 @@ pub record Left (z : Sizes) (t : Table) (s : List ℕ) (at : ℕ) (was out : Out
   pub most : ℕ
   pub within : length s < at + most
   pub inside : at ≤ length s
-  pub low : out.at ≤ 8 * at + 10
+  pub low : out.at ≤ SIZES_BYTES + PRINT_RATE * at
   pub front : List ℕ
   pub puts : Puts was out front
   pub joins : front ++ print_from most z t s at ≡ whole
 
-pub left_start : (z : Sizes) (t : Table) (s : List ℕ) (at : ℕ) (out : Out) → 0 < at → at ≤ length s → out.at ≤ 8 * at + 10 → Left z t s at out out (print_from (length s) z t s at)
+pub left_start : (z : Sizes) (t : Table) (s : List ℕ) (at : ℕ) (out : Out) → 0 < at → at ≤ length s → out.at ≤ SIZES_BYTES + PRINT_RATE * at → Left z t s at out out (print_from (length s) z t s at)
 left_start z t s at out p h l = record { most = length s; within = omega arith; inside = h; low = l; front = []; puts = puts_none out; joins = refl }
 
 module _ {z : Sizes} {t : Table} {s : List ℕ} {at : ℕ} {was out : Out} {whole : List ℕ} (l : Left z t s at was out whole) where

@@ -4,7 +4,7 @@ use Rattle.std.specs.Prelude.{ℕ, ◌≡◌, Bool, true, false, ◌||◌, List,
 use Rattle.places.specs.declared.Sizes.{Sizes}
 use Rattle.places.specs.Table.{sizes_ok}
 use Rattle.machine.specs.Standing.{Table}
-use Rattle.machine.specs.Desk.{start_answer, start_number, step_answer, step_numbers}
+use Rattle.machine.specs.Desk.{start_of, step_of, number_of}
 use Rattle.job_records.specs.declared.Record.{Record}
 use Rattle.job_records.specs.declared.Record.TheVariants.{Opens, Starts, Steps, Ends}
 use Rattle.job_records.specs.declared.Taken.{Taken}
@@ -20,8 +20,8 @@ pub data Comes (z : Sizes) (s : List ℕ) : ℕ → Table → Type 0 where
 -- the number with which a record is refused as it stands, 0 where it is not
 abbrev pub item_number : Sizes → Table → Record → ℕ
 item_number z t (Opens y) = malformed
-item_number z t (Starts j r) = start_number (start_answer z t j r)
-item_number z t (Steps j byte) = (step_numbers (step_answer z t j byte)).number
+item_number z t (Starts j r) = number_of (start_of z t j r).answer
+item_number z t (Steps j byte) = number_of (step_of z t j byte).answer
 item_number z t Ends = 0
 
 -- the same of what stands at an offset

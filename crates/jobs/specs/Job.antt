@@ -1,27 +1,25 @@
 -- 01, "Job file and print": what a job prints.
 -- Assumes nothing.
 use Rattle.std.specs.Prelude.{ℕ, zero, suc, ◌+◌, ◌*◌, List, [], ◌++◌, Bool, true, false, cond, ltb, length, replicate, Option, None, Some, Result, Ok, Err}
+use Rattle.linear.specs.declared.Request.{Request}
 use Rattle.places.specs.declared.Sizes.{Sizes}
-use Rattle.places.specs.Table.{sizes_ok, slot_count}
-use Rattle.paths.specs.Path.{path_places}
+use Rattle.places.specs.Table.{sizes_ok}
+use Rattle.slots.specs.Slot.{slot_words}
+use Rattle.paths.specs.Path.{path_words}
+use Rattle.locks.specs.Locks.{lock_words}
 use Rattle.machine.specs.declared.Refusal.{Refusal}
-use Rattle.machine.specs.declared.Request.{Request}
-use Rattle.machine.specs.Lane.{lane_numbers}
 use Rattle.machine.specs.Standing.{Table}
-use Rattle.machine.specs.Desk.{refusal_number, after_opening, start_answer, after_start, step_answer, after_step}
+use Rattle.machine.specs.Desk.{Called, open_of, start_of, step_of, refusal_number}
+use Rattle.machine.specs.Lane.{lane_words}
 use Rattle.job_records.specs.declared.Record.{Record}
 use Rattle.job_records.specs.declared.Record.TheVariants.{Opens, Starts, Steps, Ends}
 use Rattle.job_records.specs.declared.Taken.{Taken}
 use Rattle.job_records.specs.Records.{record_at}
-use Rattle.lines.specs.Lines.{sizes_line, answer_line, refused_line, end_lines}
+use Rattle.prints.specs.Lines.{sizes_line, answer_line, refused_line, end_lines}
 
 -- "At most 60,000 bytes"
 abbrev pub max_bytes : ℕ
 max_bytes = 60000
-
--- no print is longer: the bytes that the program keeps for one
-abbrev pub out_bytes : ℕ
-out_bytes = 524288
 
 -- "11: job file malformed"
 abbrev pub malformed : ℕ
@@ -31,15 +29,15 @@ malformed = 11
 unfoldable pub zeros : Sizes → Table
 zeros z =
     record {
-      slots = replicate (slot_count z * 3) 0;
-      locks = replicate ((z.locks + 1) * 2) 0;
-      lanes = replicate (z.lanes * lane_numbers) 0;
-      path = replicate (path_places z * 3) 0;
+      slots = replicate (slot_words z) 0;
+      locks = replicate (lock_words z) 0;
+      lanes = replicate (lane_words z) 0;
+      path = replicate (path_words z) 0;
     }
 
 -- "An accepted opening clears locks, lanes and path and leaves the slots alone"
 abbrev pub job_table : Sizes → Table
-job_table z = after_opening z (zeros z)
+job_table z = (open_of z (zeros z)).table
 
 -- what a record comes to: whether the job goes on, what is printed, and the table after it
 pub record Came : Type 0 where
@@ -51,7 +49,7 @@ pub record Came : Type 0 where
 abbrev pub goes_on : List ℕ → Table → Came
 goes_on text t = record { goes = true; text = text; table = t }
 
--- the job ends with this text, and the table stays as it was
+-- the job ends with this text
 abbrev pub stopped : List ℕ → Table → Came
 stopped text t = record { goes = false; text = text; table = t }
 
@@ -59,28 +57,25 @@ stopped text t = record { goes = false; text = text; table = t }
 abbrev pub refused : ℕ → ℕ → Table → Came
 refused number at t = stopped (refused_line number at) t
 
--- what a call of the desk comes to: c of its answer where it is accepted, else its refusal
-abbrev pub answered : {A : Type 0} → Result A Refusal → ℕ → (A → Came) → Table → Came
-answered (Ok a) at c t = c a
-answered (Err r) at c t = refused (refusal_number r) at t
+-- what an answer of the desk comes to: its text where the call is accepted, else its refusal
+abbrev pub answered : {A : Type 0} → (A → List ℕ) → ℕ → Result A Refusal → Table → Came
+answered text at (Ok a) t = goes_on (text a) t
+answered text at (Err r) t = refused (refusal_number r) at t
+
+-- and what a call of the desk comes to
+abbrev pub came_by : {A : Type 0} → (A → List ℕ) → ℕ → Called (Result A Refusal) → Came
+came_by text at c = answered text at c.answer c.table
 
 -- "6 last; a byte after it is a fault at that byte's offset, found before kind 6 prints"
 unfoldable pub end_text : Sizes → List ℕ → List ℕ → ℕ → List ℕ
 end_text z xs s at = cond (ltb (at + 1) (length s)) (refused_line malformed (at + 1)) (end_lines z xs)
 
--- a start prints nothing
-abbrev pub start_came : Sizes → Table → ℕ → ℕ → Request → Came
-start_came z t at j r = answered (start_answer z t j r) at (λ u. goes_on [] (after_start z t j r)) t
-
--- "A step answers that the lane goes on, or its end with the result": it prints how the lane's operation ended, if it did
-abbrev pub step_came : Sizes → Table → ℕ → ℕ → ℕ → Came
-step_came z t at j byte = answered (step_answer z t j byte) at (λ a. goes_on (answer_line j a) (after_step z t j byte)) t
-
--- the record whose kind byte stands at offset at; "Kind 1 stands first and once"
+-- the record whose kind byte stands at offset at; "Kind 1 stands first and once". A start prints nothing. "A step answers that the lane goes on, or
+-- its end with the result": it prints how the lane's operation ended, if it did
 abbrev pub came_of : Sizes → Table → List ℕ → ℕ → Record → Came
 came_of z t s at (Opens y) = refused malformed at t
-came_of z t s at (Starts j r) = start_came z t at j r
-came_of z t s at (Steps j byte) = step_came z t at j byte
+came_of z t s at (Starts j r) = came_by (λ u. []) at (start_of z t j r)
+came_of z t s at (Steps j byte) = came_by (answer_line j) at (step_of z t j byte)
 came_of z t s at Ends = stopped (end_text z t.slots s at) t
 
 -- what is printed from offset at on, of at most k records: "earlier lines stay". Where no record stands the job is malformed

@@ -5,9 +5,9 @@ use Rattle.std.specs.declared.ops.ControlFlow.{ControlFlow}
 use Rattle.std.specs.declared.ops.ControlFlow.TheVariants.{Continue, Break}
 use Rattle.machine.specs.Standing.{Table}
 use Rattle.machine.specs.Desk.{refusal_number}
-use Rattle.prints.specs.declared.Out.{Out}
+use Rattle.prints.specs.declared.text.Out.{Out}
 use Rattle.prints.specs.Put.{Puts}
-use Rattle.lines.specs.Lines.{refused_line}
+use Rattle.prints.specs.Lines.{refused_line}
 use Rattle.jobs.specs.declared.stop.Cause.{Cause}
 use Rattle.jobs.specs.declared.stop.Cause.TheVariants.{Malformed, Refused}
 use Rattle.jobs.specs.declared.stop.Stop.{Stop}

@@ -3,9 +3,8 @@ ghost use Rattle.std.specs.Prelude.{◌≡◌, ◌+◌, ◌^◌, ◌<◌, ◌≤
 ghost use Rattle.jobs.specs.Obeys.{cause_number, last_line};
 ghost use Rattle.prints.specs.Put.{Puts};
 
-use lines::put_refusal;
 use machine::Refusal;
-use prints::Out;
+use prints::{Out, REFUSAL_BYTES, put_refusal};
 
 #[derive(Clone, Copy)]
 pub(super) enum Cause {
@@ -45,7 +44,7 @@ impl Stop {
 
 // The last line of a job that stops, nothing after one that does not.
 pub(super) fn put_last(done: Result<(), Stop>, out: &mut Out)
-    requires { out.old.at + 33 ≤ length out.old.bytes.now }
+    requires { out.old.at + REFUSAL_BYTES ≤ length out.old.bytes.now }
     ensures { Puts out.old out.new (last_line done) }
 {
     if let Err(Stop { cause, at }) = done {

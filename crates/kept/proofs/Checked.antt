@@ -12,25 +12,25 @@ use Rattle.lists.specs.Below.{all_below, all_of}
 use Rattle.lists.proofs.Below.{Each, all_at, all_from, all_each, each_all, and_left, and_right, or_cases}
 use Rattle.places.specs.declared.Sizes.{Sizes}
 use Rattle.places.specs.Table.{slot_index}
-use Rattle.slots.specs.Slot.{slot_at, is_full, holds}
+use Rattle.slots.specs.Slot.{slot_at, is_full, has_key}
 use Rattle.slots.specs.Sound.{sound}
 use Rattle.slots.proofs.Facts.{sound_facts, facts_sound}
-use Rattle.locks.specs.Locks.{lock_at, part_flag, part_count, part_writes, part_reads}
-use Rattle.locks.proofs.Grabs.{Counts}
+use Rattle.locks.specs.Locks.{lock_at}
+use Rattle.locks.proofs.Counts.{Counts, tested_counts, counts_tested}
 use Rattle.paths.specs.declared.Place.{Place}
 use Rattle.paths.specs.Path.{path_places, place_at, no_place, last_of}
 use Rattle.machine.specs.declared.RowClaim.{RowClaim}
 use Rattle.machine.specs.declared.SlotClaim.{SlotClaim}
 use Rattle.machine.specs.declared.Claims.{Claims}
-use Rattle.machine.specs.Lane.{lane_at, decodes}
-use Rattle.machine.specs.Claims.{lane_in, claims_of}
+use Rattle.machine.specs.Back.{lane_at, decodes}
+use Rattle.machine.specs.Stages.{lane_in, claims_of, claim_key}
 use Rattle.machine.specs.Standing.{Table, last_at, parts_in, lock_stands, place_stands, linked, unused, path_used, path_stands, row_stands, slot_stands, claim_tests, lane_stands, standing}
 use Rattle.machine.proofs.Claimed.{RowClaimed, SlotClaimed, Claimed}
 use Rattle.kept.proofs.Facts.{PlaceFacts, PathFacts, Stands}
 
 -- the facts of the standing check, of a table
 abbrev pub StandsIn : Sizes → Table → Type 0
-StandsIn z t = Stands z (slot_at t.slots) (lock_at t.locks) (lane_at t.lanes) (place_at t.path)
+StandsIn z t = Stands z (slot_at t.slots) (lock_at z t.locks) (lane_at t.lanes) (place_at t.path)
 
 -- the same, and every lane's numbers are those of a lane
 pub record Standing (z : Sizes) (t : Table) : Type 0 where
@@ -49,7 +49,7 @@ module _ (z : Sizes) (xs : List ℕ) (key : ℕ) where
       }
     where
       lacking : ℕ → Bool
-      lacking i = not (holds (slot_at xs (slot_index z c.row i)) key)
+      lacking i = not (has_key (slot_at xs (slot_index z c.row i)) key)
 
       full : ℕ → Bool
       full i = is_full (slot_at xs (slot_index z c.row i))
@@ -125,16 +125,13 @@ module _ (z : Sizes) (t : Table) where
 -- ---- locks
 
 module _ (z : Sizes) (t : Table) (k : ℕ) where
-  abbrev Numbers : Type 0
-  Numbers = Counts (lock_at t.locks k) (parts_in z part_flag t k) (parts_in z part_count t k) (parts_in z part_writes t k) (parts_in z part_reads t k)
-
-  lock_facts : lock_stands z t k ≡ true → Numbers
+  lock_facts : lock_stands z t k ≡ true → Counts z (lock_at z t.locks k) (λ f. parts_in z f t k)
   unfolding lock_stands
-  lock_facts e = grind arith
+  lock_facts e = tested_counts z _ _ e
 
-  facts_lock : Numbers → lock_stands z t k ≡ true
+  facts_lock : Counts z (lock_at z t.locks k) (λ f. parts_in z f t k) → lock_stands z t k ≡ true
   unfolding lock_stands
-  facts_lock h = grind arith
+  facts_lock h = counts_tested z _ _ h
 
 -- ---- lanes, and all of it
 
@@ -146,7 +143,7 @@ module _ (z : Sizes) (t : Table) where
   lane_tests j =
       decodes t.lanes j
       ∷ all_of (lane_in z (lane_at t.lanes j) (last_at t j))
-      ∷ claim_tests z t.slots (lane_at t.lanes j).key (claims_in j)
+      ∷ claim_tests z t.slots (claim_key (lane_at t.lanes j)) (claims_in j)
 
   abbrev table_tests : List Bool
   table_tests =
@@ -165,7 +162,7 @@ module _ (z : Sizes) (t : Table) where
             record {
               sound = sound_facts z t.slots tests.0;
               range = λ j l. all_each (lane_in z (lane_at t.lanes j) (last_at t j)) (lane j l).1.0;
-              claims = λ j l. tests_claimed z t.slots (lane_at t.lanes j).key (claims_in j) (lane j l).1.1;
+              claims = λ j l. tests_claimed z t.slots (claim_key (lane_at t.lanes j)) (claims_in j) (lane j l).1.1;
               locks = λ k l. lock_facts z t k (all_at (lock_stands z t) (z.locks + 1) k tests.1.1.1.0 l);
               path = path_facts z t tests.1.1.0;
             };

@@ -5,6 +5,7 @@ pub mod Others
 pub mod Words
 pub mod Path
 pub mod Stores
+pub mod Fitting
 pub mod Does
 pub mod Route
 pub mod Slots

@@ -14,8 +14,8 @@ use Rattle.slots.specs.declared.Slot.{Slot}
 use Rattle.slots.proofs.Views.{Sets}
 use Rattle.locks.specs.declared.Lock.{Lock}
 use Rattle.locks.specs.declared.Part.{Part}
-use Rattle.locks.proofs.Grabs.{Counts}
-use Rattle.locks.specs.Locks.{part_flag, part_count, part_writes, part_reads}
+use Rattle.locks.specs.Parts.{part_flag, part_writes, part_reads}
+use Rattle.locks.proofs.Counts.{Counts}
 use Rattle.paths.specs.declared.Place.{Place}
 use Rattle.machine.specs.declared.Stage.{Stage}
 use Rattle.machine.specs.declared.Lane.{Lane}
@@ -24,10 +24,13 @@ use Rattle.machine.specs.declared.SlotClaim.{SlotClaim}
 use Rattle.machine.specs.declared.SlotClaim.TheVariants.{NoClaim, HasKey, HasPair, HasRoom}
 use Rattle.machine.specs.declared.Claims.{Claims}
 use Rattle.machine.specs.declared.Grip.{Grip}
-use Rattle.machine.specs.Claims.{stage_in, lane_in, grip_of, share, claims_at, claims_of}
+use Rattle.machine.specs.Claims.{share}
+use Rattle.machine.specs.Stages.{stage_in, lane_in, grip_of, claims_at, claims_of, item_at, claim_key}
 use Rattle.machine.proofs.Claimed.{Claimed}
 use Rattle.kept.proofs.Facts.{last_for, parts}
 use Rattle.machine.proofs.Guards.{part_holds, ClaimHeld, SlotHeld, guarded_one, guarded_two, guarded_slot}
+use Rattle.machine.specs.declared.Task.{Task}
+use Rattle.machine.specs.declared.Lane.TheVariants.{Idle, Busy}
 
 -- ---- a writer is alone
 
@@ -45,7 +48,7 @@ pub share_sum : (z : Sizes) (g : Grip) (k : ℕ) → share z part_holds g k ≡ 
 share_sum z g k = grind (arith, on_sum)
 
 -- while lane i holds lock k for writing, no other lane holds it
-pub alone : (z : Sizes) (w : ℕ → Lock) (σ : ℕ → Lane) (π : ℕ → Place) (i j k : ℕ) → ((k : ℕ) → k < z.locks + 1 → Counts (w k) (parts z part_flag σ π k) (parts z part_count σ π k) (parts z part_writes σ π k) (parts z part_reads σ π k)) → i < z.lanes → j < z.lanes → j ≢ i → k < z.locks + 1 → 1 ≤ share z part_writes (grip_of z (σ i) (last_for π (σ i))) k → share z part_holds (grip_of z (σ j) (last_for π (σ j))) k ≡ 0
+pub alone : (z : Sizes) (w : ℕ → Lock) (σ : ℕ → Lane) (π : ℕ → Place) (i j k : ℕ) → ((k : ℕ) → k < z.locks + 1 → Counts z (w k) (λ f. parts z f σ π k)) → i < z.lanes → j < z.lanes → j ≢ i → k < z.locks + 1 → 1 ≤ share z part_writes (grip_of z (σ i) (last_for π (σ i))) k → share z part_holds (grip_of z (σ j) (last_for π (σ j))) k ≡ 0
 alone z w σ π i j k counts hi hj d hk h =
     core (by part_writes i) (by part_flag i) (by part_writes j) (by part_reads j) (by part_flag j) (by part_holds j) (parts z part_flag σ π k) (parts z part_writes σ π k) (parts z part_reads σ π k)
     h (share_le z (grips i) k) (share_le z (grips j) k) (share_sum z (grips j) k) (sum_at_two z.lanes i j (by part_flag) hi hj (λ e. d (sym e))) (sum_at z.lanes i (by part_writes) hi) (sum_at z.lanes j (by part_reads) hj) (counts k hk).single (counts k hk).apart
@@ -92,13 +95,14 @@ pub record Narrow (z : Sizes) (c : Claims) : Type 0 where
   pub slot : SlotNarrow z c.slot
 
 module _ (z : Sizes) where
-  module _ (l : Lane) (last : Place) where
+  module _ (l : Task) (last : Place) where
     stage_narrow : (s : Stage) → Each (stage_in z l last s) → Narrow z (claims_at z l last s)
-    unfolding claims_at
+    unfolding item_at
     stage_narrow s h = grind arith
 
-    pub claims_narrow : Each (lane_in z l last) → Narrow z (claims_of z l last)
-    claims_narrow h = stage_narrow l.stage h.1.1
+  pub claims_narrow : (l : Lane) (last : Place) → Each (lane_in z l last) → Narrow z (claims_of z l last)
+  claims_narrow Idle last h = grind arith
+  claims_narrow (Busy l) last h = stage_narrow l last l.stage h.1.1
 
 -- ---- the claims of others stand
 
@@ -110,9 +114,9 @@ module _ (z : Sizes) (v v' : ℕ → Slot) (g : Grip) (row : ℕ) (n : share z p
   slot_agrees : (c : SlotClaim) → SlotHeld z g c → SlotNarrow z c → SlotAgrees z v v' c
   slot_agrees c h p = grind arith
 
-pub others_claims : (z : Sizes) → Fits z → (v v' : ℕ → Slot) (l : Lane) (last : Place) (row : ℕ) → row < z.rows → Each (lane_in z l last) → share z part_holds (grip_of z l last) (lock_of z row) ≡ 0 → ((r c : ℕ) → c < z.columns → r ≢ row → v' (slot_index z r c) ≡ v (slot_index z r c)) → Claimed z v l.key (claims_of z l last) → Claimed z v' l.key (claims_of z l last)
+pub others_claims : (z : Sizes) → Fits z → (v v' : ℕ → Slot) (l : Lane) (last : Place) (row : ℕ) → row < z.rows → Each (lane_in z l last) → share z part_holds (grip_of z l last) (lock_of z row) ≡ 0 → ((r c : ℕ) → c < z.columns → r ≢ row → v' (slot_index z r c) ≡ v (slot_index z r c)) → Claimed z v (claim_key l) (claims_of z l last) → Claimed z v' (claim_key l) (claims_of z l last)
 others_claims z f v v' l last row _ range n same h =
-    claimed_same z v v' l.key (claims_of z l last) h
+    claimed_same z v v' (claim_key l) (claims_of z l last) h
     (row_agrees z v v' (grip_of z l last) row n same (claims_of z l last).one (guarded_one z l last range) narrow.lack_one narrow.full_one)
     (row_agrees z v v' (grip_of z l last) row n same (claims_of z l last).two (guarded_two z l last range) narrow.lack_two narrow.full_two)
     (slot_agrees z v v' (grip_of z l last) row n same (claims_of z l last).slot (guarded_slot z l last range) narrow.slot)

@@ -12,7 +12,7 @@ use Rattle.places.specs.declared.Sizes.{Sizes}
 use Rattle.paths.specs.declared.Place.{Place}
 use Rattle.paths.specs.Path.{no_place, other_row}
 use Rattle.machine.specs.declared.Lane.{Lane}
-use Rattle.machine.specs.Steps.{path_length}
+use Rattle.machine.specs.Stages.{places_of}
 use Rattle.kept.proofs.Facts.{last_for, PlaceFacts, PathFacts, used}
 
 -- what a step does to a path of n places, of which n' are then left; it changes only where Nobody else has places
@@ -38,20 +38,20 @@ sum_only (suc n) i f l e = elim (ℕ_discrete n i) [
 module _ (z : Sizes) (σ σ' : ℕ → Lane) (π π' : ℕ → Place) (i : ℕ) where
   -- no other lane has places on the path
   abbrev pub Nobody : Type 0
-  Nobody = (j : ℕ) → j < z.lanes → j ≢ i → path_length (σ j).stage ≡ 0
+  Nobody = (j : ℕ) → j < z.lanes → j ≢ i → places_of (σ j) ≡ 0
 
-  module _ (n n' : ℕ) (within : i < z.lanes) (here : path_length (σ i).stage ≡ n) (here' : path_length (σ' i).stage ≡ n')
-      (there : (j : ℕ) → j < z.lanes → j ≢ i → path_length (σ' j).stage ≡ path_length (σ j).stage) where
+  module _ (n n' : ℕ) (within : i < z.lanes) (here : places_of (σ i) ≡ n) (here' : places_of (σ' i) ≡ n')
+      (there : (j : ℕ) → j < z.lanes → j ≢ i → places_of (σ' j) ≡ places_of (σ j)) where
     used_change : used z σ' + n ≡ used z σ + n'
     used_change =
-        omega (arith, sum_change z.lanes i (λ j. path_length (σ j).stage) (λ j. path_length (σ' j).stage) within there, here, here')
+        omega (arith, sum_change z.lanes i (λ j. places_of (σ j)) (λ j. places_of (σ' j)) within there, here, here')
 
     pub path_kept : PathDoes Nobody z π π' n n' → PathFacts z π (used z σ) → PathFacts z π' (used z σ')
     path_kept d h = go d
       where
         by_mine : Nobody → PathFacts z π' (used z σ')
         by_mine none =
-            let a : used z σ ≡ n = sum_only z.lanes i (λ j. path_length (σ j).stage) within none ∙ here in
+            let a : used z σ ≡ n = sum_only z.lanes i (λ j. places_of (σ j)) within none ∙ here in
             let b : used z σ' ≡ n' = omega (arith, used_change) in
             rw b (own_path Nobody z π π' n n' d (rw a at h))
 

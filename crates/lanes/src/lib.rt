@@ -1,9 +1,7 @@
-// One step of a lane, by value: where it goes by its stage, and the step over the lent slots, locks and path.
+// One step of a lane, by value: its act, what the act does to the lent slots, locks and path, and where the lane goes.
 // Uses `acts`, `moves` and what stands below them.
 #![tactic(auto)]
 
-mod going;
 mod steps;
 
-pub use going::advance;
-pub use steps::step_lane;
+pub use steps::{step_lane, step_task};

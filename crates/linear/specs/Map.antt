@@ -1,8 +1,10 @@
 -- Demand 3's plain map from strokes to values, and what operations do to it.
 -- Assumes nothing.
-use Rattle.std.specs.Prelude.{◌≡◌, ◌⊎◌, Bool, true, false, cond, ℕ, eqb}
-use Rattle.std.proofs.Math.Option.{Option, none, some}
-use Rattle.linear.specs.Log.{Op, read, delete, insert, Ans, read_none, read_value, deleted, insert_yes, insert_searched, insert_walked}
+use Rattle.std.specs.Prelude.{◌≡◌, ◌⊎◌, Bool, true, false, cond, ℕ, eqb, Option, None, Some}
+use Rattle.linear.specs.declared.Request.{Request}
+use Rattle.linear.specs.declared.Request.TheVariants.{Read, Delete, Insert}
+use Rattle.linear.specs.declared.End.{End}
+use Rattle.linear.specs.declared.End.TheVariants.{ReadNone, ReadValue, Deleted, InsertYes, InsertSearched, InsertWalked}
 
 -- the value of each key that has one
 abbrev pub Bindings : Type 0
@@ -13,32 +15,32 @@ unfoldable pub binds : Bindings → ℕ → Option ℕ → Bindings
 binds m key b k = cond (eqb k key) b (m k)
 
 -- "a no from insert"
-abbrev pub is_no : Ans → Bool
-is_no read_none = false
-is_no (read_value value) = false
-is_no deleted = false
-is_no insert_yes = false
-is_no insert_searched = true
-is_no insert_walked = true
+abbrev pub is_no : End → Bool
+is_no ReadNone = false
+is_no (ReadValue value) = false
+is_no Deleted = false
+is_no InsertYes = false
+is_no InsertSearched = true
+is_no InsertWalked = true
 
 -- how an operation ended, if it did: was it a no? "an unfinished insert put there counts as a yes"
-abbrev pub said_no : Option Ans → Bool
-said_no none = false
-said_no (some ans) = is_no ans
+abbrev pub said_no : Option End → Bool
+said_no None = false
+said_no (Some ans) = is_no ans
 
 -- the map after an operation that ended so: "a no from insert leaves that map alone"
-abbrev pub after : Op → Option Ans → Bindings → Bindings
-after (read key) end m = m
-after (delete key) end m = binds m key none
-after (insert key value) end m = cond (said_no end) m (binds m key (some value))
+abbrev pub after : Request → Option End → Bindings → Bindings
+after (Read key) end m = m
+after (Delete key) end m = binds m key None
+after (Insert key value) end m = cond (said_no end) m (binds m key (Some value))
 
 -- the answer to a read
-abbrev pub found : Option ℕ → Ans
-found none = read_none
-found (some value) = read_value value
+abbrev pub found : Option ℕ → End
+found None = ReadNone
+found (Some value) = ReadValue value
 
 -- the map gives this answer. An insert may say no at any time
-abbrev pub Gives : Op → Ans → Bindings → Type 0
-Gives (read key) ans m = ans ≡ found (m key)
-Gives (delete key) ans m = ans ≡ deleted
-Gives (insert key value) ans m = (ans ≡ insert_yes) ⊎ (is_no ans ≡ true)
+abbrev pub Gives : Request → End → Bindings → Type 0
+Gives (Read key) ans m = ans ≡ found (m key)
+Gives (Delete key) ans m = ans ≡ Deleted
+Gives (Insert key value) ans m = (ans ≡ InsertYes) ⊎ (is_no ans ≡ true)

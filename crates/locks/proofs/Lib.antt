@@ -1,2 +1,5 @@
 pub mod Views
-pub mod Grabs
+pub mod Record
+pub mod Measures
+pub mod Counts
+pub mod Turns

@@ -1,10 +1,11 @@
 // What a lane's part in a lock adds to its flag, to its count, to its writers and to its readers.
 ghost use Rattle.std.specs.Prelude.{◌≡◌};
-ghost use Rattle.locks.specs.Locks.{part_flag, part_count, part_writes, part_reads};
+ghost use Rattle.locks.specs.Parts.{part_flag, part_count, part_writes, part_reads};
 
 use super::{Grab, Mode, Part};
 
 impl Part {
+    #[tactic(auto, unfolding(crate::specs::Parts::grab_flag))]
     pub fn flag(self) -> u32
         ensures { result ≡ part_flag self }
     {
@@ -14,6 +15,7 @@ impl Part {
         }
     }
 
+    #[tactic(auto, unfolding(crate::specs::Parts::grab_count))]
     pub fn count(self) -> u32
         ensures { result ≡ part_count self }
     {

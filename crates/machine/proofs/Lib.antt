@@ -7,7 +7,6 @@ pub mod Swaps
 pub mod Follows
 pub mod Route
 pub mod Frame
-pub mod Grabbing
 pub mod Range
 pub mod RangeKept
 pub mod Shift
@@ -17,4 +16,5 @@ pub mod Picks
 pub mod Own
 pub mod Refused
 pub mod Released
-pub mod RefusalNumbers
+pub mod Still
+pub mod Computing

@@ -3,64 +3,99 @@
 use mathlib.Core.Path.{◌≡◌, ◌∙◌, ap, sym, refl}
 use mathlib.Core.Logic.{◌≢◌}
 use mathlib.Core.List.{List}
-use mathlib.Core.Bool.{Bool, true}
-use Prim.Native.Nat.{ℕ, zero, suc, ◌+◌, ◌*◌, ◌≤◌, ◌<◌}
+use mathlib.Core.Bool.{Bool, true, cond}
+use Prim.Native.Nat.{ℕ, zero, suc, ◌<◌}
 use native.Mathlib.Omega.{arith}
 use lib.Dec.{eqb, lit<}
 use lib.ListN.{length, get_or, replicate}
 use borrow.Author.Tests.{eq-eqb}
 use Rattle.lists.specs.Below.{all_below}
-use Rattle.lists.specs.Records.{cell}
+use Rattle.lists.specs.Records.{cell, HasRecord}
 use Rattle.lists.proofs.Below.{all_from}
 use Rattle.lists.proofs.Records.{cell_same, cell_other, put_length, zeros_at, cell_zeros}
+use Rattle.locks.proofs.Record.{grab_back}
+use Rattle.lists.proofs.Views.{View, view_read}
 use Rattle.machine.specs.declared.Lane.{Lane}
-use Rattle.machine.specs.Lane.{op_of, stage_of, numbers_of, words_at, lane_at, with_lane, decodes, idle_lane}
+use Rattle.machine.specs.declared.Lane.TheVariants.{Idle, Busy}
+use Rattle.machine.specs.Lane.{lane_numbers, Words, numbers_of, with_lane}
+use Rattle.machine.specs.Back.{op_of, stage_of, lane_at, decodes}
+
+-- a lane read from its numbers
+abbrev words_of : (ℕ → ℕ) → Words
+words_of g =
+    record {
+      code = g 0;
+      grab = g 4;
+      noted = g 5;
+      side = g 6;
+      column = g 7;
+      ending = g 8;
+      picks = g 9;
+      places = g 10;
+      free_row = g 11;
+      free_column = g 12;
+      seen = g 13;
+    }
+
+abbrev lane_of : (ℕ → ℕ) → Lane
+lane_of g = cond (eqb (g 1) 0) Idle (Busy (record { op = op_of (g 1); key = g 2; value = g 3; stage = stage_of (words_of g) }))
+
+alike_words : (g h : ℕ → ℕ) → ((f : ℕ) → f < lane_numbers → g f ≡ h f) → words_of g ≡ words_of h
+alike_words g h e = λ z.
+    record {
+      code = e 0 (lit< tt) z;
+      grab = e 4 (lit< tt) z;
+      noted = e 5 (lit< tt) z;
+      side = e 6 (lit< tt) z;
+      column = e 7 (lit< tt) z;
+      ending = e 8 (lit< tt) z;
+      picks = e 9 (lit< tt) z;
+      places = e 10 (lit< tt) z;
+      free_row = e 11 (lit< tt) z;
+      free_column = e 12 (lit< tt) z;
+      seen = e 13 (lit< tt) z;
+    }
+
+lane_back : (l : Lane) → lane_of (λ f. get_or (numbers_of l) f 0) ≡ l
+unfolding numbers_of
+lane_back l = grind (arith, grab_back)
+
+numbers_long : (l : Lane) → length (numbers_of l) ≡ lane_numbers
+unfolding numbers_of
+numbers_long l = grind arith
+
+lane_view : View lane_numbers lane_of numbers_of
+unfolding numbers_of
+lane_view =
+    record {
+      long = numbers_long;
+      alike = λ g h e z.
+          cond (eqb (e 1 (lit< tt) z) 0) Idle
+          (Busy (record { op = op_of (e 1 (lit< tt) z); key = e 2 (lit< tt) z; value = e 3 (lit< tt) z; stage = stage_of (alike_words g h e z) }));
+      back = lane_back;
+    }
 
 -- record j of ls' has the numbers of record i of ls
 abbrev Alike : List ℕ → ℕ → List ℕ → ℕ → Type 0
-Alike ls' j ls i = (f : ℕ) → f < 14 → cell 14 ls' j f ≡ cell 14 ls i f
+Alike ls' j ls i = (f : ℕ) → f < lane_numbers → cell lane_numbers ls' j f ≡ cell lane_numbers ls i f
 
 alike_lane : (ls' ls : List ℕ) (j i : ℕ) → Alike ls' j ls i → lane_at ls' j ≡ lane_at ls i
 unfolding lane_at
-alike_lane ls' ls j i r = λ z. record { op = op_of (r 1 (lit< tt) z); key = r 2 (lit< tt) z; value = r 3 (lit< tt) z; stage = stage_of (numbers z) }
-  where
-    numbers : words_at ls' j ≡ words_at ls i
-    numbers = λ z.
-        record {
-          code = r 0 (lit< tt) z;
-          grab = r 4 (lit< tt) z;
-          noted = r 5 (lit< tt) z;
-          side = r 6 (lit< tt) z;
-          column = r 7 (lit< tt) z;
-          ending = r 8 (lit< tt) z;
-          picks = r 9 (lit< tt) z;
-          places = r 10 (lit< tt) z;
-          free_row = r 11 (lit< tt) z;
-          free_column = r 12 (lit< tt) z;
-          seen = r 13 (lit< tt) z;
-        }
+alike_lane ls' ls j i r = lane_view.alike _ _ r
 
 -- record i of ls has the numbers of the lane l
 abbrev Reads : List ℕ → ℕ → Lane → Type 0
-Reads ls i l = (f : ℕ) → f < 14 → cell 14 ls i f ≡ get_or (numbers_of l) f 0
-
--- a lane's numbers by themselves are its record
-alone_lane : (l : Lane) → lane_at (numbers_of l) 0 ≡ l
-unfolding lane_at numbers_of cell
-alone_lane l = grind arith
-
-alone_reads : (l : Lane) (f : ℕ) → cell 14 (numbers_of l) 0 f ≡ get_or (numbers_of l) f 0
-unfolding cell
-alone_reads l f = grind arith
+Reads ls i l = (f : ℕ) → f < lane_numbers → cell lane_numbers ls i f ≡ get_or (numbers_of l) f 0
 
 reads_lane : (ls : List ℕ) (i : ℕ) (l : Lane) → Reads ls i l → lane_at ls i ≡ l
-reads_lane ls i l r = alike_lane ls (numbers_of l) i 0 (λ f h. r f h ∙ sym (alone_reads l f)) ∙ alone_lane l
+unfolding lane_at
+reads_lane ls i l r = view_read lane_view ls i l r
 
 reads_decodes : (ls : List ℕ) (i : ℕ) (l : Lane) → Reads ls i l → decodes ls i ≡ true
 unfolding decodes
-reads_decodes ls i l r = all_from (λ f. eqb (cell 14 ls i f) (get_or (numbers_of (lane_at ls i)) f 0)) 14 one
+reads_decodes ls i l r = all_from (λ f. eqb (cell lane_numbers ls i f) (get_or (numbers_of (lane_at ls i)) f 0)) lane_numbers one
   where
-    one : (f : ℕ) → f < 14 → eqb (cell 14 ls i f) (get_or (numbers_of (lane_at ls i)) f 0) ≡ true
+    one : (f : ℕ) → f < lane_numbers → eqb (cell lane_numbers ls i f) (get_or (numbers_of (lane_at ls i)) f 0) ≡ true
     one f h = eq-eqb _ _ (r f h ∙ ap (λ (k : Lane). get_or (numbers_of k) f 0) (sym (reads_lane ls i l r)))
 
 all_same : (n : ℕ) (p q : ℕ → Bool) → ((i : ℕ) → i < n → p i ≡ q i) → all_below n p ≡ all_below n q
@@ -73,15 +108,15 @@ unfolding decodes
 alike_decodes ls' ls j r = grind (arith, all_same, alike_lane)
 
 module _ (ls : List ℕ) (i : ℕ) (l : Lane) where
-  stored : i * 14 + 14 ≤ length ls → Reads (with_lane ls i l) i l
+  stored : HasRecord lane_numbers ls i → Reads (with_lane ls i l) i l
   unfolding with_lane numbers_of
-  stored b f h = cell_same 14 ls i (numbers_of l) f refl h b
+  stored b f h = cell_same lane_numbers ls i (numbers_of l) f (numbers_long l) h b
 
   untouched : (j : ℕ) → j ≢ i → Alike (with_lane ls i l) j ls j
   unfolding with_lane numbers_of
-  untouched j d f h = cell_other 14 ls i (numbers_of l) j f refl h d
+  untouched j d f h = cell_other lane_numbers ls i (numbers_of l) j f (numbers_long l) h d
 
-  pub lane_same : i * 14 + 14 ≤ length ls → lane_at (with_lane ls i l) i ≡ l
+  pub lane_same : HasRecord lane_numbers ls i → lane_at (with_lane ls i l) i ≡ l
   lane_same b = reads_lane (with_lane ls i l) i l (stored b)
 
   pub lane_other : (j : ℕ) → j ≢ i → lane_at (with_lane ls i l) j ≡ lane_at ls j
@@ -89,9 +124,9 @@ module _ (ls : List ℕ) (i : ℕ) (l : Lane) where
 
   pub lane_length : length (with_lane ls i l) ≡ length ls
   unfolding with_lane
-  lane_length = put_length 14 ls i (numbers_of l)
+  lane_length = put_length lane_numbers ls i (numbers_of l)
 
-  pub decodes_same : i * 14 + 14 ≤ length ls → decodes (with_lane ls i l) i ≡ true
+  pub decodes_same : HasRecord lane_numbers ls i → decodes (with_lane ls i l) i ≡ true
   decodes_same b = reads_decodes (with_lane ls i l) i l (stored b)
 
   pub decodes_other : (j : ℕ) → j ≢ i → decodes (with_lane ls i l) j ≡ decodes ls j
@@ -99,12 +134,12 @@ module _ (ls : List ℕ) (i : ℕ) (l : Lane) where
 
 -- a record of zeros is an idle lane
 module _ (n i : ℕ) where
-  zeros_idle : Reads (replicate n 0) i idle_lane
+  zeros_idle : Reads (replicate n 0) i Idle
   unfolding numbers_of
-  zeros_idle f h = cell_zeros 14 n i f ∙ sym (zeros_at 14 f)
+  zeros_idle f h = cell_zeros lane_numbers n i f ∙ sym (zeros_at lane_numbers f)
 
-  pub opened_lane : lane_at (replicate n 0) i ≡ idle_lane
-  opened_lane = reads_lane (replicate n 0) i idle_lane zeros_idle
+  pub opened_lane : lane_at (replicate n 0) i ≡ Idle
+  opened_lane = reads_lane (replicate n 0) i Idle zeros_idle
 
   pub opened_decodes : decodes (replicate n 0) i ≡ true
-  opened_decodes = reads_decodes (replicate n 0) i idle_lane zeros_idle
+  opened_decodes = reads_decodes (replicate n 0) i Idle zeros_idle

@@ -6,8 +6,8 @@ use native.Mathlib.Omega.{arith}
 use Rattle.locks.specs.declared.Mode.TheVariants.{Writing}
 use Rattle.locks.specs.declared.Part.TheVariants.{NoPart, Holds}
 use Rattle.machine.specs.declared.Op.{Op}
-use Rattle.machine.specs.Steps.{mode_of}
-use Rattle.machine.specs.Claims.{is_idle_op, is_read, is_insert, is_first_pass, is_second_pass, only_seeks, writes_hit, main_part}
+use Rattle.machine.specs.Rules.{mode_of, is_read, is_insert, is_first_pass, is_second_pass, only_seeks, writes_hit}
+use Rattle.machine.specs.Claims.{main_part}
 
 pub first_inserts : (op : Op) → is_first_pass op ≡ true → is_insert op ≡ true
 first_inserts op e = grind arith
@@ -18,21 +18,18 @@ second_inserts op e = grind arith
 pub inserts_write : (op : Op) → is_insert op ≡ true → writes_hit op ≡ true
 inserts_write op e = grind arith
 
-pub inserts_busy : (op : Op) → is_insert op ≡ true → not (is_idle_op op) ≡ true
-inserts_busy op e = grind arith
-
 pub seeks_not_insert : (op : Op) → only_seeks op ≡ true → not (is_insert op) ≡ true
 seeks_not_insert op e = grind arith
 
 pub read_not_insert : (op : Op) → is_read op ≡ true → not (is_insert op) ≡ true
 read_not_insert op e = grind arith
 
--- a busy lane that is no read writes, and one that is no insert only seeks
-pub busy_writes : (op : Op) → not (is_idle_op op) ≡ true → is_read op ≡ false → writes_hit op ≡ true
-busy_writes op a b = grind arith
+-- what is no read writes, and what is no insert only seeks
+pub busy_writes : (op : Op) → is_read op ≡ false → writes_hit op ≡ true
+busy_writes op e = grind arith
 
-pub busy_seeks : (op : Op) → not (is_idle_op op) ≡ true → is_insert op ≡ false → only_seeks op ≡ true
-busy_seeks op a b = grind arith
+pub busy_seeks : (op : Op) → is_insert op ≡ false → only_seeks op ≡ true
+busy_seeks op e = grind arith
 
 pub insert_second : (op : Op) → is_insert op ≡ true → is_first_pass op ≡ false → is_second_pass op ≡ true
 insert_second op a b = grind arith

@@ -1,5 +1,9 @@
+pub mod Sides
 pub mod Lane
-pub mod Steps
+pub mod Back
+pub mod Rules
 pub mod Claims
+pub mod Stages
+pub mod Steps
 pub mod Standing
 pub mod Desk

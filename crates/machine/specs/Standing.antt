@@ -4,19 +4,20 @@ use Rattle.std.specs.Prelude.{ℕ, ◌+◌, ◌-◌, List, [], ◌∷◌, Bool, 
 use Rattle.lists.specs.Below.{sum_below, all_below, all_of}
 use Rattle.places.specs.declared.Sizes.{Sizes}
 use Rattle.places.specs.Table.{max_key, home_one, home_two, slot_index}
-use Rattle.slots.specs.Slot.{slot_at, is_full, is_empty, holds}
+use Rattle.slots.specs.Slot.{slot_at, is_full, is_empty, has_key}
 use Rattle.slots.specs.Sound.{sound}
 use Rattle.locks.specs.declared.Part.{Part}
-use Rattle.locks.specs.Locks.{lock_at, part_flag, part_count, part_writes, part_reads}
+use Rattle.locks.specs.Locks.{lock_at}
+use Rattle.locks.specs.Parts.{lock_tests}
 use Rattle.paths.specs.declared.Place.{Place}
 use Rattle.paths.specs.Path.{path_places, place_at, last_of, other_row}
 use Rattle.machine.specs.declared.RowClaim.{RowClaim}
 use Rattle.machine.specs.declared.SlotClaim.{SlotClaim}
 use Rattle.machine.specs.declared.SlotClaim.TheVariants.{NoClaim, HasKey, HasPair, HasRoom}
 use Rattle.machine.specs.declared.Claims.{Claims}
-use Rattle.machine.specs.Lane.{lane_at, decodes}
-use Rattle.machine.specs.Steps.{path_length}
-use Rattle.machine.specs.Claims.{lane_in, grip_of, share, claims_of}
+use Rattle.machine.specs.Back.{lane_at, decodes}
+use Rattle.machine.specs.Claims.{share}
+use Rattle.machine.specs.Stages.{places_of, claim_key, grip_of, claims_of, lane_in}
 
 -- "What the table holds": the lent numbers, slots, locks, lanes and path
 pub record Table : Type 0 where
@@ -27,22 +28,15 @@ pub record Table : Type 0 where
 
 -- the last place on a lane's path
 abbrev pub last_at : Table → ℕ → Place
-last_at t j = last_of t.path (path_length (lane_at t.lanes j).stage)
+last_at t j = last_of t.path (places_of (lane_at t.lanes j))
 
 -- the lanes' parts in lock k, added up by a measure of parts
 abbrev pub parts_in : Sizes → (Part → ℕ) → Table → ℕ → ℕ
 parts_in z f t k = sum_below z.lanes (λ j. share z f (grip_of z (lane_at t.lanes j) (last_at t j)) k)
 
--- "a lock's flag is set exactly when one lane is past W1 or holds it for writing, and never two; its count is the number of lanes at
--- R3, R4 or holding it for reading"; "none for writing while another holds it for reading"
+-- a lock's numbers are what the lanes' parts in it add up to, "none for writing while another holds it for reading"
 unfoldable pub lock_stands : Sizes → Table → ℕ → Bool
-lock_stands z t k =
-    all_of
-    (eqb (lock_at t.locks k).flag (parts_in z part_flag t k)
-    ∷ leb (parts_in z part_flag t k) 1
-    ∷ eqb (lock_at t.locks k).count (parts_in z part_count t k)
-    ∷ (eqb (parts_in z part_writes t k) 0 || eqb (parts_in z part_reads t k) 0)
-    ∷ [])
+lock_stands z t k = all_of (lock_tests z (lock_at z t.locks k) (λ f. parts_in z f t k))
 
 -- "path places are in range"; a place is in a home row of its key
 unfoldable pub place_stands : Sizes → Place → Bool
@@ -62,7 +56,7 @@ unused ps i = all_of (eqb (place_at ps i).row 0 ∷ eqb (place_at ps i).column 0
 
 -- how many places are on the path: at most one lane has any
 abbrev pub path_used : Sizes → Table → ℕ
-path_used z t = sum_below z.lanes (λ j. path_length (lane_at t.lanes j).stage)
+path_used z t = sum_below z.lanes (λ j. places_of (lane_at t.lanes j))
 
 -- "path places are in range, neighbours obey places_ok", "unused path places are zeros"
 unfoldable pub path_stands : Sizes → Table → Bool
@@ -76,15 +70,15 @@ path_stands z t =
 -- "columns passed seeking its key lack it, those passed seeking an empty slot are full": the first columns of a row
 unfoldable pub row_stands : Sizes → List ℕ → ℕ → RowClaim → Bool
 row_stands z xs key c =
-    all_below c.lacking (λ i. not (holds (slot_at xs (slot_index z c.row i)) key))
+    all_below c.lacking (λ i. not (has_key (slot_at xs (slot_index z c.row i)) key))
     && all_below c.full (λ i. is_full (slot_at xs (slot_index z c.row i)))
 
 -- "a hit holds its key", "a slot to fill is empty"
 unfoldable pub slot_stands : Sizes → List ℕ → ℕ → SlotClaim → Bool
 slot_stands z xs key NoClaim = true
-slot_stands z xs key (HasKey row column) = holds (slot_at xs (slot_index z row column)) key
+slot_stands z xs key (HasKey row column) = has_key (slot_at xs (slot_index z row column)) key
 slot_stands z xs key (HasPair row column value) =
-    holds (slot_at xs (slot_index z row column)) key && eqb (slot_at xs (slot_index z row column)).value value
+    has_key (slot_at xs (slot_index z row column)) key && eqb (slot_at xs (slot_index z row column)).value value
 slot_stands z xs key (HasRoom row column) = is_empty (slot_at xs (slot_index z row column))
 
 -- all that a lane claims
@@ -97,7 +91,7 @@ lane_stands z t j =
     all_of
     (decodes t.lanes j
     ∷ all_of (lane_in z (lane_at t.lanes j) (last_at t j))
-    ∷ claim_tests z t.slots (lane_at t.lanes j).key (claims_of z (lane_at t.lanes j) (last_at t j)))
+    ∷ claim_tests z t.slots (claim_key (lane_at t.lanes j)) (claims_of z (lane_at t.lanes j) (last_at t j)))
 
 -- "Standing check"
 unfoldable pub standing : Sizes → Table → Bool

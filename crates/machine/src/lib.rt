@@ -1,9 +1,11 @@
 // The machine as 01 says it: a lane and its numbers, its steps, the standing check, and what the desk answers. Definitions and laws,
-// no code but a refusal's numbers. Uses `lists`, `places`, `slots`, `locks` and `paths`.
+// no code but a refusal's numbers and the choice by a side. Uses `lists`, `linear`, `places`, `slots`, `locks` and `paths`.
 #![tactic(auto)]
 
 mod refusals;
+mod sides;
 
+use linear::End;
 use locks::{Grab, Mode, Part};
 use paths::Place;
 use slots::{Fault, Slot};
@@ -11,7 +13,6 @@ use slots::{Fault, Slot};
 // What a lane is doing. Again is an insert in its second pass.
 #[derive(Clone, Copy, PartialEq, Eq)]
 pub enum Op {
-    NoOp,
     Read,
     Delete,
     Insert,
@@ -62,37 +63,38 @@ pub enum Ending {
 // Where a lane stands: its next step is the item named. DropNext has what the attempt came to: a free column, or none in a full row.
 #[derive(Clone, Copy)]
 pub enum Stage {
-    Idle,
     TakeMain(Grab),
-    TakeFirst(Grab),
-    SeekFirst(u32),
-    TakeSecond(Grab),
-    SeekSecond(u32),
-    RoomFirst(u32),
-    RoomSecond(u32),
+    Take(Side, Grab),
+    Seek(Side, u32),
+    SeekRoom(Side, u32),
     WriteHit(Side, u32),
     WriteRoom(Side, u32),
     Pick,
-    DropFirst(Outcome),
-    DropSecond(Outcome),
+    Drop(Side, Outcome),
     DropMain(Ending),
     TakeNext(Grab, Trail),
     LookNext(u32, Trail),
     PickNext(Trail),
     DropNext(Option<u32>, Trail),
-    TakeLow(Grab, Walk),
-    TakeHigh(Grab, Walk),
+    TakeSwing(Side, Grab, Walk),
     Swing(Walk),
-    DropLow(Walk),
-    DropHigh(Walk),
+    DropSwing(Side, Walk),
 }
 
+// An operation that is under way.
 #[derive(Clone, Copy)]
-pub struct Lane {
+pub struct Task {
     pub op: Op,
     pub key: u32,
     pub value: u32,
     pub stage: Stage,
+}
+
+// "A lane is idle or has an operation."
+#[derive(Clone, Copy)]
+pub enum Lane {
+    Idle,
+    Busy(Task),
 }
 
 // What a release does to the path: nothing, the place at that index leaves it, or all do.
@@ -106,7 +108,6 @@ pub enum Tail {
 // One atomic thing that a step does to the lent memory.
 #[derive(Clone, Copy)]
 pub enum Act {
-    Rest,
     Try(u32, Grab),
     Release(u32, Mode, Tail),
     Look(u32, u32),
@@ -123,23 +124,11 @@ pub struct Seen {
     pub slot: Slot,
 }
 
-// What a step answers: the lane goes on, or its operation ends with this result.
-#[derive(Clone, Copy)]
-pub enum Answer {
-    GoesOn,
-    ReadNone,
-    ReadValue(u32),
-    Deleted,
-    InsertYes,
-    InsertSearched,
-    InsertWalked,
-}
-
-// A lane after its step, and the answer.
+// A lane after its step, and the answer: None as long as the lane goes on, else how its operation ends.
 #[derive(Clone, Copy)]
 pub struct Moved {
     pub lane: Lane,
-    pub answer: Answer,
+    pub answer: Option<End>,
 }
 
 // What a lane claims of one row: its first columns that lack the lane's key, and its first columns that are full.
@@ -193,12 +182,4 @@ pub enum Refusal {
     Idle,
     NotStanding,
     BadKey,
-}
-
-// What a start begins.
-#[derive(Clone, Copy)]
-pub enum Request {
-    AskRead(u32),
-    AskDelete(u32),
-    AskInsert(u32, u32),
 }

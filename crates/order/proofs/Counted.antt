@@ -11,21 +11,26 @@ use Rattle.lists.specs.Below.{bit}
 use Rattle.lists.proofs.Below.{Each}
 use Rattle.places.specs.declared.Sizes.{Sizes}
 use Rattle.places.specs.Table.{Fits}
-use Rattle.slots.specs.Slot.{is_empty, is_full, holds}
+use Rattle.slots.specs.Slot.{is_empty, is_full, has_key}
 use Rattle.paths.specs.declared.Place.{Place}
+use Rattle.paths.specs.Path.{path_places}
 use Rattle.machine.specs.declared.Op.{Op}
+use Rattle.machine.specs.declared.Side.{Side}
+use Rattle.machine.specs.declared.Side.TheVariants.{First, Second}
 use Rattle.machine.specs.declared.Outcome.{Outcome}
 use Rattle.machine.specs.declared.Walk.{Walk}
 use Rattle.machine.specs.declared.Stage.{Stage}
 use Rattle.machine.specs.declared.Stage.TheVariants.{Swing}
-use Rattle.machine.specs.declared.Lane.{Lane}
+use Rattle.machine.specs.declared.Task.{Task}
 use Rattle.machine.specs.declared.Seen.{Seen}
 use Rattle.machine.specs.declared.Moved.{Moved}
-use Rattle.machine.specs.Claims.{is_first_pass, is_second_pass, stage_in}
+use Rattle.machine.specs.Sides.{by_side}
+use Rattle.machine.specs.Rules.{is_first_pass, is_second_pass}
+use Rattle.machine.specs.Stages.{item_at, stage_in}
 use Rattle.machine.proofs.Ops.{insert_second}
-use Rattle.machine.proofs.Ways.{Leaves, leaves_hit, leaves_ended, leaves_wrote, leaves_filled, leaves_miss, leaves_picked, leaves_stuck, Swings, Goes, rests, main_waits, main_held, first_waits, first_held, first_read, first_hit, first_more, first_shared, first_apart, second_waits, second_held, second_read, second_hit, second_more, second_miss, second_room, room_first, room_first_more, room_first_full, room_second, room_second_more, room_pick, room_stuck, wrote_hit, wrote_room, picked_first, drops_on, drops_one, drops_two_lem, drops_main, next_waits, next_held, next_free, next_more, next_full, next_picked, next_walk, next_over, next_again, low_waits, low_shared, low_apart, high_waits, high_held, swings, drops_low, drops_both, drops_high}
+use Rattle.machine.proofs.Ways.{Leaves, leaves_hit, leaves_ended, leaves_wrote, leaves_filled, leaves_miss, leaves_picked, leaves_stuck, Swings, Goes, main_waits, main_held, take_waits, take_held, seek_read, seek_hit, seek_more, seek_shared, seek_apart, seek_miss, seek_room, room_here, room_more, room_second, room_pick, room_stuck, wrote_hit, wrote_room, picked_first, drops_on, drops_one, drops_two_lem, drops_main, next_waits, next_held, next_free, next_more, next_full, next_picked, next_walk, next_over, next_again, swing_waits, swing_held, swing_apart, swings, drops_low, drops_last}
 use Rattle.order.specs.History.{seeks, rooms, tries, picks, other, item, after_walk, full_on}
-use Rattle.order.proofs.Tally.{Tally, more, InPass, InSearch, InWalk, InWrite, IsStuck, OutcomeCounts, Counts}
+use Rattle.order.proofs.Tally.{Tally, more, InPass, InSearch, InWalk, InWrite, IsStuck, OutcomeCounts, Counts, CountsIn}
 
 first_not_second : (op : Op) → is_first_pass op ≡ true → is_second_pass op ≡ false
 first_not_second op e = grind arith
@@ -33,7 +38,7 @@ first_not_second op e = grind arith
 pass_to : (z : Sizes) (op : Op) (m m' k k' : ℕ) (c : Tally) → m ≡ m' → k ≡ k' → InPass z op m k c → InPass z op m' k' c
 pass_to z op m m' k k' c p q h = grind arith
 
-module _ (z : Sizes) (f : Fits z) (l : Lane) (seen : Seen) (c : Tally) where
+module _ (z : Sizes) (f : Fits z) (l : Task) (seen : Seen) (c : Tally) where
   abbrev B : Bool
   B = is_second_pass l.op
 
@@ -68,7 +73,7 @@ module _ (z : Sizes) (f : Fits z) (l : Lane) (seen : Seen) (c : Tally) where
   outcome : (o : Outcome) → OutcomeCounts z o c → OutcomeCounts z o (more z l seen other c)
   outcome o h = grind arith
 
-  left : (o : Outcome) (m : Moved) → OutcomeCounts z o c → Leaves l o m → Counts z m.lane.op m.lane.stage (more z l seen other c)
+  left : (o : Outcome) (m : Moved) → OutcomeCounts z o c → Leaves z l o m → CountsIn z m.lane (more z l seen other c)
   left o m h leaves_hit = tt
   left o m h (leaves_ended a) = tt
   left o m h (leaves_wrote a) = wrote 1 h
@@ -77,7 +82,7 @@ module _ (z : Sizes) (f : Fits z) (l : Lane) (seen : Seen) (c : Tally) where
   left o m h leaves_picked = search 0 1 h
   left o m h leaves_stuck = stuck h
 
-  swung : (last : Place) (n : ℕ) (m : Moved) → InWalk z n c → Swings l last n m → Counts z m.lane.op m.lane.stage (more z l seen other c)
+  swung : (last : Place) (n : ℕ) (m : Moved) → InWalk z n c → Swings z l last n m → CountsIn z m.lane (more z l seen other c)
   swung last n m h k = grind arith
 
   -- ---- a pick, and a swing
@@ -91,11 +96,11 @@ module _ (z : Sizes) (f : Fits z) (l : Lane) (seen : Seen) (c : Tally) where
   -- ---- a look for the key
 
   module _ (n : ℕ) where
-    seek_miss : (k : ℕ) → holds seen.slot l.key ≡ false → InPass z l.op n k c → InPass z l.op (n + 1) k (more z l seen (seeks n) c)
-    seek_miss k q h = grind (arith, after_walk_lem)
+    seek_none : (k : ℕ) → has_key seen.slot l.key ≡ false → InPass z l.op n k c → InPass z l.op (n + 1) k (more z l seen (seeks n) c)
+    seek_none k q h = grind (arith, after_walk_lem)
 
-    seek_hit : InPass z l.op n 0 c → InWrite z 0 (more z l seen (seeks n) c)
-    seek_hit h = grind arith
+    seek_hit_lem : InPass z l.op n 0 c → InWrite z 0 (more z l seen (seeks n) c)
+    seek_hit_lem h = grind arith
 
     seek_ends : (k : ℕ) → InPass z l.op n k c → (more z l seen (seeks n) c).writes ≡ 0
     seek_ends k h = (omega (arith, h.writes))
@@ -140,34 +145,31 @@ module _ (z : Sizes) (f : Fits z) (l : Lane) (seen : Seen) (c : Tally) where
   to_walk : {n p : ℕ} {d : Tally} → n ≤ z.rows → p ≡ n + 1 → InSearch n p d → InWalk z p d
   to_walk q e h = grind arith
 
-  to_over : {n p : ℕ} {d : Tally} → n ≡ z.rows + 1 → p ≡ n + 1 → InSearch n p d → InSearch (z.rows + 1) (z.rows + 2) d
+  to_over : {n p : ℕ} {d : Tally} → n ≡ z.rows + 1 → p ≡ n + 1 → InSearch n p d → InSearch (z.rows + 1) (path_places z) d
   to_over q e h = grind arith
+
+  side_low : (side : Side) → by_side side 0 z.columns ≤ z.columns
+  side_low First = omega arith
+  side_low Second = omega arith
 
   -- ---- every way
 
-  pub counted : (last : Place) (s : Stage) (m : Moved) → (is_empty seen.slot ≡ false → is_full seen.slot ≡ true) → Each (stage_in z l last s) → Counts z l.op s c → Goes z l last seen s m → Counts z m.lane.op m.lane.stage (more z l seen (item z s) c)
-  counted last s m solid r h rests = tt
+  pub counted : (last : Place) (s : Stage) (m : Moved) → (is_empty seen.slot ≡ false → is_full seen.slot ≡ true) → Each (stage_in z l last s) → Counts z l.op s c → Goes z l last seen s m → CountsIn z m.lane (more z l seen (item z s) c)
+  unfolding item_at
   counted last s m solid r h (main_waits a) = pass 0 0 h
   counted last s m solid r h (main_held a) = pass 0 0 h
-  counted last s m solid r h (first_waits a) = pass 0 0 h
-  counted last s m solid r h (first_held a) = pass 0 0 h
-  counted last s m solid r h (first_read {c = n} a w) = seek_ends n 0 h
-  counted last s m solid r h (first_hit {c = n} a w) = seek_hit n h
-  counted last s m solid r h (first_more {c = n} a w) = seek_miss n 0 a h
-  counted last s m solid r h (first_shared {c = n} a w b) = pass_to z l.op (n + 1) (z.columns + 0) 0 0 _ (omega (arith, ends n r.1.0 w)) refl (seek_miss n 0 a h)
-  counted last s m solid r h (first_apart {c = n} a w b) = pass_to z l.op (n + 1) z.columns 0 0 _ (ends n r.1.0 w) refl (seek_miss n 0 a h)
-  counted last s m solid r h (second_waits a) = pass z.columns 0 h
-  counted last s m solid r h (second_held a) = pass_to z l.op z.columns (z.columns + 0) 0 0 _ (omega arith) refl (pass z.columns 0 h)
-  counted last s m solid r h (second_read {c = n} a w) = seek_ends (z.columns + n) 0 h
-  counted last s m solid r h (second_hit {c = n} a w) = seek_hit (z.columns + n) h
-  counted last s m solid r h (second_more {c = n} a w) = pass_to z l.op (z.columns + n + 1) (z.columns + (n + 1)) 0 0 _ (omega arith) refl (seek_miss (z.columns + n) 0 a h)
-  counted last s m solid r h (second_miss {c = n} a w b) = seek_ends (z.columns + n) 0 h
-  counted last s m solid r h (second_room {c = n} a w b) = pass_to z l.op (z.columns + n + 1) (z.columns + z.columns) 0 0 _ (omega (arith, ends n r.1.0 w)) refl (seek_miss (z.columns + n) 0 a h)
-  counted last s m solid r h (room_first {c = n} a) = room_seen n (z.columns + z.columns) a (omega (arith, ltb-true n z.columns r.1.0)) h
-  counted last s m solid r h (room_first_more {c = n} a w) = room_none n (z.columns + z.columns) (solid a) h
-  counted last s m solid r h (room_first_full {c = n} a w) = pass_to z l.op _ _ (n + 1) (z.columns + 0) _ refl (omega (arith, ends n r.1.0 w)) (room_none n (z.columns + z.columns) (solid a) h)
-  counted last s m solid r h (room_second {c = n} a) = room_seen (z.columns + n) (z.columns + z.columns) a (omega (arith, ltb-true n z.columns r.1.0)) h
-  counted last s m solid r h (room_second_more {c = n} a w) = pass_to z l.op _ _ (z.columns + n + 1) (z.columns + (n + 1)) _ refl (omega arith) (room_none (z.columns + n) (z.columns + z.columns) (solid a) h)
+  counted last s m solid r h (take_waits {side} a) = pass (by_side side 0 z.columns) 0 h
+  counted last s m solid r h (take_held {side} a) = pass_to z l.op (by_side side 0 z.columns) (by_side side 0 z.columns + 0) 0 0 _ (omega arith) refl (pass (by_side side 0 z.columns) 0 h)
+  counted last s m solid r h (seek_read {side} {c = n} a w) = seek_ends (by_side side 0 z.columns + n) 0 h
+  counted last s m solid r h (seek_hit {side} {c = n} a w) = seek_hit_lem (by_side side 0 z.columns + n) h
+  counted last s m solid r h (seek_more {side} {c = n} a w) = pass_to z l.op (by_side side 0 z.columns + n + 1) (by_side side 0 z.columns + (n + 1)) 0 0 _ (omega arith) refl (seek_none (by_side side 0 z.columns + n) 0 a h)
+  counted last s m solid r h (seek_shared {c = n} a w b) = pass_to z l.op (0 + n + 1) (z.columns + 0) 0 0 _ (omega (arith, ends n r.0 w)) refl (seek_none (0 + n) 0 a h)
+  counted last s m solid r h (seek_apart {c = n} a w b) = pass_to z l.op (0 + n + 1) z.columns 0 0 _ (omega (arith, ends n r.0 w)) refl (seek_none (0 + n) 0 a h)
+  counted last s m solid r h (seek_miss {c = n} a w b) = seek_ends (z.columns + n) 0 h
+  counted last s m solid r h (seek_room {c = n} a w b) = pass_to z l.op (z.columns + n + 1) (z.columns + z.columns) 0 (0 + 0) _ (omega (arith, ends n r.0 w)) (omega arith) (seek_none (z.columns + n) 0 a h)
+  counted last s m solid r h (room_here {side} {c = n} a) = room_seen (by_side side 0 z.columns + n) (z.columns + z.columns) a (omega (arith, side_low side, ltb-true n z.columns r.1.0)) h
+  counted last s m solid r h (room_more {side} {c = n} a w) = pass_to z l.op _ _ (by_side side 0 z.columns + n + 1) (by_side side 0 z.columns + (n + 1)) _ refl (omega arith) (room_none (by_side side 0 z.columns + n) (z.columns + z.columns) (solid a) h)
+  counted last s m solid r h (room_second {c = n} a w) = pass_to z l.op _ _ (0 + n + 1) (z.columns + 0) _ refl (omega (arith, ends n r.1.0 w)) (room_none (0 + n) (z.columns + z.columns) (solid a) h)
   counted last s m solid r h (room_pick {c = n} a w b) = to_search (first_not_second l.op b) (room_none (z.columns + n) (z.columns + z.columns) (solid a) h)
   counted last s m solid r h (room_stuck {c = n} a w b) = to_stuck (insert_second l.op r.0 b) (pass_to z l.op _ _ (z.columns + n + 1) (z.columns + z.columns) _ refl (omega (arith, ends n r.1.0 w)) (room_none (z.columns + n) (z.columns + z.columns) (solid a) h))
   counted last s m solid r h wrote_hit = record { writes = omega (arith, h.writes); full = rw full_zero h.full; crowded = h.crowded }
@@ -186,12 +188,9 @@ module _ (z : Sizes) (f : Fits z) (l : Lane) (seen : Seen) (c : Tally) where
   counted last s m solid r h (next_walk {t}) = to_walk (leb-true t.picks z.rows r.1.1.0) (eqb-true t.places (t.picks + 1) r.1.1.1.0) (search t.picks t.places h)
   counted last s m solid r h (next_over {t} a) = to_over (omega (arith, ltb-true z.rows t.picks a, leb-true t.picks (z.rows + 1) r.1.1.0)) (eqb-true t.places (t.picks + 1) r.1.1.1.0) (search t.picks t.places h)
   counted last s m solid r h (next_again {t} a) = search t.picks t.places h
-  counted last s m solid r h (low_waits {w} a) = walk w.places h
-  counted last s m solid r h (low_shared {w} a e) = walk w.places h
-  counted last s m solid r h (low_apart {w} a e) = walk w.places h
-  counted last s m solid r h (high_waits {w} a) = walk w.places h
-  counted last s m solid r h (high_held {w} a) = walk w.places h
+  counted last s m solid r h (swing_waits {w} a) = walk w.places h
+  counted last s m solid r h (swing_held {w} a e) = walk w.places h
+  counted last s m solid r h (swing_apart {w} a e) = walk w.places h
   counted last s m solid r h (swings {w}) = swing w (leb-true 1 w.places r.1.0) h
   counted last s m solid r h (drops_low {w} a) = walk (w.places - 1) h
-  counted last s m solid r h (drops_both {w} {m = n} a p) = swung last (w.places - 1) n h p
-  counted last s m solid r h (drops_high {w} {m = n} p) = swung last (w.places - 1) n h p
+  counted last s m solid r h (drops_last {w} {m = n} a p) = swung last (w.places - 1) n h p

@@ -1,16 +1,15 @@
 -- THE THEOREM for demand 2: of every accepted step that follows a run from an opened table.
 -- Assumes nothing.
-use mathlib.Core.Path.{◌≡◌}
 use mathlib.Core.List.{List, [], ◌∷◌}
 use Prim.Native.Nat.{ℕ}
 use native.Mathlib.Decide.{ℕ_discrete}
 use Rattle.places.specs.declared.Sizes.{Sizes}
 use Rattle.machine.specs.Standing.{Table}
-use Rattle.machine.specs.Desk.{opening_number, after_opening, step_answer, step_numbers}
+use Rattle.machine.specs.Desk.{open_of, step_of, Accepts}
 use Rattle.order.specs.Run.{Event, start, step, next, Run, table_after}
 use Rattle.order.specs.History.{Sight, history_from}
 use Rattle.order.specs.Demand2.{Demand2}
-use Rattle.order.proofs.Moves.{lane_of}
+use Rattle.order.proofs.Moves.{lane_of, step_busy}
 use Rattle.order.proofs.Begins.{opening_lanes}
 use Rattle.order.proofs.OneStep.{CountsOf, by_start, by_step, step_does}
 
@@ -22,8 +21,11 @@ module _ (z : Sizes) (j : ℕ) where
 
 -- ---- the theorem
 
-pub demand_2 : (z : Sizes) (t : Table) (es : List Event) (j byte : ℕ) → (opening_number z t).number ≡ 0 → Run z (after_opening z t) es → (step_numbers (step_answer z (table_after z (after_opening z t) es) j byte)).number ≡ 0
-    → Demand2 z (after_opening z t) es j byte
+pub demand_2 : (z : Sizes) (t : Table) (es : List Event) (j byte : ℕ) → Accepts (open_of z t) → Run z (open_of z t).table es
+    → Accepts (step_of z (table_after z (open_of z t).table es) j byte)
+    → Demand2 z (open_of z t).table es j byte
 demand_2 z t es j byte e a b =
-    let k : CountsOf z (lane_of (after_opening z t) j) [] = rw (opening_lanes z t e j) tt in
-    step_does z (table_after z (after_opening z t) es) j byte b (history_from z j [] (after_opening z t) es) (counts_run z j (after_opening z t) [] k es a)
+    let k : CountsOf z (lane_of (open_of z t).table j) [] = rw (opening_lanes z t e j) tt in
+    let u : Table = table_after z (open_of z t).table es in
+    let l = step_busy z u j byte b in
+    (l.0, l.1, step_does z u j byte b (history_from z j [] (open_of z t).table es) l.0 l.1 (rw l.1 at (counts_run z j (open_of z t).table [] k es a)))

@@ -1,7 +1,7 @@
 pub mod Binds
 pub mod Ghosts
 pub mod Dropped
-pub mod Placed
+pub mod Settled
 pub mod Moves
 pub mod Begins
 pub mod Reach

@@ -1,10 +1,9 @@
 -- A run from an opened table comes to a reached one, so that what is said of reached tables holds of runs.
 -- Assumes nothing.
-use mathlib.Core.Path.{◌≡◌}
 use mathlib.Core.List.{List, [], ◌∷◌}
 use Rattle.places.specs.declared.Sizes.{Sizes}
 use Rattle.machine.specs.Standing.{Table}
-use Rattle.machine.specs.Desk.{opening_number, after_opening}
+use Rattle.machine.specs.Desk.{open_of, Accepts}
 use Rattle.kept.specs.Runs.{Reached, by_opening, by_start, by_step}
 use Rattle.order.specs.Run.{Event, start, step, next, Run, table_after}
 
@@ -13,5 +12,6 @@ reaches_on z t p [] a = p
 reaches_on z t p (start j r ∷ es) a = reaches_on z (next z t (start j r)) (by_start t j r p a.0) es a.1
 reaches_on z t p (step j byte ∷ es) a = reaches_on z (next z t (step j byte)) (by_step t j byte p a.0) es a.1
 
-pub run_reached : (z : Sizes) (t : Table) (es : List Event) → (opening_number z t).number ≡ 0 → Run z (after_opening z t) es → Reached z (table_after z (after_opening z t) es)
-run_reached z t es e a = reaches_on z (after_opening z t) (by_opening t e) es a
+pub run_reached : (z : Sizes) (t : Table) (es : List Event) → Accepts (open_of z t) → Run z (open_of z t).table es
+    → Reached z (table_after z (open_of z t).table es)
+run_reached z t es e a = reaches_on z (open_of z t).table (by_opening t e) es a

@@ -7,17 +7,21 @@ use Prim.Native.Nat.{ℕ, ◌+◌, ◌-◌, ◌≤◌, ◌<◌}
 use lib.Dec.{eqb, ltb}
 use Rattle.lists.specs.Below.{bit}
 use Rattle.places.specs.declared.Sizes.{Sizes}
-use Rattle.slots.specs.Slot.{is_full, holds}
+use Rattle.slots.specs.Slot.{is_full, has_key}
+use Rattle.paths.specs.Path.{path_places}
 use Rattle.machine.specs.declared.Op.{Op}
 use Rattle.machine.specs.declared.Outcome.{Outcome}
 use Rattle.machine.specs.declared.Outcome.TheVariants.{Hit, Wrote, Filled, Miss, Picked, Stuck}
 use Rattle.machine.specs.declared.Ending.{Ending}
 use Rattle.machine.specs.declared.Ending.TheVariants.{Yes, Searched, Walked}
 use Rattle.machine.specs.declared.Stage.{Stage}
-use Rattle.machine.specs.declared.Stage.TheVariants.{Idle, TakeMain, TakeFirst, SeekFirst, TakeSecond, SeekSecond, RoomFirst, RoomSecond, WriteHit, WriteRoom, Pick, DropFirst, DropSecond, DropMain, TakeNext, LookNext, PickNext, DropNext, TakeLow, TakeHigh, Swing, DropLow, DropHigh}
+use Rattle.machine.specs.declared.Stage.TheVariants.{TakeMain, Take, Seek, SeekRoom, WriteHit, WriteRoom, Pick, Drop, DropMain, TakeNext, LookNext, PickNext, DropNext, TakeSwing, Swing, DropSwing}
+use Rattle.machine.specs.declared.Task.{Task}
 use Rattle.machine.specs.declared.Lane.{Lane}
+use Rattle.machine.specs.declared.Lane.TheVariants.{Idle, Busy}
 use Rattle.machine.specs.declared.Seen.{Seen}
-use Rattle.machine.specs.Claims.{is_second_pass}
+use Rattle.machine.specs.Sides.{by_side}
+use Rattle.machine.specs.Rules.{is_second_pass}
 use Rattle.order.specs.History.{Sight, Item, is_write, is_pick, is_swing, writes_in, picks_in, swings_in, after_walk, full_on, full_columns, full_attempts, miss_on, missed, room_on, crowded}
 
 -- the counts of a history
@@ -35,7 +39,7 @@ tally z h =
     record { writes = writes_in z h; picks = picks_in z h; swings = swings_in z h; columns = full_columns z h; full = full_attempts z h; missed = missed z h; crowded = crowded z h }
 
 -- and with one step more
-abbrev pub more : Sizes → Lane → Seen → Item → Tally → Tally
+abbrev pub more : Sizes → Task → Seen → Item → Tally → Tally
 more z l seen i c =
     record {
       writes = c.writes + bit (is_write i);
@@ -43,7 +47,7 @@ more z l seen i c =
       swings = c.swings + bit (is_swing i);
       columns = full_on i (is_full seen.slot) c.columns;
       full = c.full + bit (eqb (full_on i (is_full seen.slot) c.columns) z.columns);
-      missed = miss_on (after_walk c.picks c.swings) i (holds seen.slot l.key) c.missed;
+      missed = miss_on (after_walk c.picks c.swings) i (has_key seen.slot l.key) c.missed;
       crowded = room_on (after_walk c.picks c.swings) i (is_full seen.slot) c.crowded;
     }
 
@@ -98,30 +102,28 @@ OutcomeCounts z Stuck c = IsStuck z c
 
 abbrev pub EndingCounts : Sizes → Ending → Tally → Type 0
 EndingCounts z Yes c = InWrite z 1 c
-EndingCounts z (Searched places) c = InSearch (z.rows + 1) (z.rows + 2) c
+EndingCounts z (Searched places) c = InSearch (z.rows + 1) (path_places z) c
 EndingCounts z Walked c = IsStuck z c
 
 abbrev pub Counts : Sizes → Op → Stage → Tally → Type 0
-Counts z op Idle c = Unit {0}
 Counts z op (TakeMain g) c = InPass z op 0 0 c
-Counts z op (TakeFirst g) c = InPass z op 0 0 c
-Counts z op (SeekFirst column) c = InPass z op column 0 c
-Counts z op (TakeSecond g) c = InPass z op z.columns 0 c
-Counts z op (SeekSecond column) c = InPass z op (z.columns + column) 0 c
-Counts z op (RoomFirst column) c = InPass z op (z.columns + z.columns) column c
-Counts z op (RoomSecond column) c = InPass z op (z.columns + z.columns) (z.columns + column) c
+Counts z op (Take side g) c = InPass z op (by_side side 0 z.columns) 0 c
+Counts z op (Seek side column) c = InPass z op (by_side side 0 z.columns + column) 0 c
+Counts z op (SeekRoom side column) c = InPass z op (z.columns + z.columns) (by_side side 0 z.columns + column) c
 Counts z op (WriteHit side column) c = InWrite z 0 c
 Counts z op (WriteRoom side column) c = InWrite z 0 c
 Counts z op Pick c = InSearch 0 0 c
-Counts z op (DropFirst o) c = OutcomeCounts z o c
-Counts z op (DropSecond o) c = OutcomeCounts z o c
+Counts z op (Drop side o) c = OutcomeCounts z o c
 Counts z op (DropMain e) c = EndingCounts z e c
 Counts z op (TakeNext g t) c = InSearch t.picks t.places c
 Counts z op (LookNext column t) c = InSearch t.picks t.places c × (c.columns ≡ column)
 Counts z op (PickNext t) c = InSearch (t.picks + 1) t.places c
 Counts z op (DropNext f t) c = InSearch t.picks t.places c
-Counts z op (TakeLow g w) c = InWalk z w.places c
-Counts z op (TakeHigh g w) c = InWalk z w.places c
+Counts z op (TakeSwing side g w) c = InWalk z w.places c
 Counts z op (Swing w) c = InWalk z w.places c
-Counts z op (DropLow w) c = InWalk z (w.places - 1) c
-Counts z op (DropHigh w) c = InWalk z (w.places - 1) c
+Counts z op (DropSwing side w) c = InWalk z (w.places - 1) c
+
+-- and in each lane: of an idle one nothing is asked
+abbrev pub CountsIn : Sizes → Lane → Tally → Type 0
+CountsIn z Idle c = Unit {0}
+CountsIn z (Busy k) c = Counts z k.op k.stage c

@@ -4,33 +4,42 @@ use Rattle.std.specs.Prelude.{Bool, true, false, cond, not, ◌&&◌, List, [], 
 use Rattle.lists.specs.Below.{bit}
 use Rattle.places.specs.declared.Sizes.{Sizes}
 use Rattle.slots.specs.declared.Slot.{Slot}
-use Rattle.slots.specs.Slot.{is_full, holds}
+use Rattle.slots.specs.Slot.{is_full, has_key}
+use Rattle.paths.specs.Path.{last_of}
 use Rattle.machine.specs.declared.Stage.{Stage}
-use Rattle.machine.specs.declared.Stage.TheVariants.{Idle, TakeMain, TakeFirst, SeekFirst, TakeSecond, SeekSecond, RoomFirst, RoomSecond, WriteHit, WriteRoom, Pick, DropFirst, DropSecond, DropMain, TakeNext, LookNext, PickNext, DropNext, TakeLow, TakeHigh, Swing, DropLow, DropHigh}
+use Rattle.machine.specs.declared.Stage.TheVariants.{Seek, SeekRoom, WriteHit, WriteRoom, Pick, LookNext, PickNext, Swing}
+use Rattle.machine.specs.declared.Task.{Task}
 use Rattle.machine.specs.declared.Lane.{Lane}
-use Rattle.machine.specs.Lane.{lane_at}
-use Rattle.machine.specs.Steps.{act_of, perform}
-use Rattle.machine.specs.Standing.{Table, last_at}
+use Rattle.machine.specs.declared.Lane.TheVariants.{Idle, Busy}
+use Rattle.machine.specs.Back.{lane_at}
+use Rattle.machine.specs.Sides.{by_side}
+use Rattle.machine.specs.Stages.{path_length, act_of}
+use Rattle.machine.specs.Steps.{perform}
+use Rattle.machine.specs.Standing.{Table}
 use Rattle.machine.specs.Desk.{memory_of}
 use Rattle.order.specs.Run.{Event, start, step, next}
 
 -- ---- the history
 
--- a step: its lane as it stood, and the slot that it looked at, zeros where it looked at none
+-- a step: its lane's task as it stood, and the slot that it looked at, zeros where it looked at none
 pub record Sight : Type 0 where
-  pub lane : Lane
+  pub task : Task
   pub slot : Slot
 
--- of the step that lane j takes with this byte
-abbrev pub sight : Sizes → Table → ℕ → ℕ → Sight
-sight z t j byte =
-    record { lane = lane_at t.lanes j; slot = (perform z (act_of z (lane_at t.lanes j) (last_at t j)) byte (memory_of t)).seen.slot }
+-- of the step that a lane with the task k takes with this byte
+abbrev pub sight : Sizes → Table → Task → ℕ → Sight
+sight z t k byte = record { task = k; slot = (perform z (act_of z k (last_of t.path (path_length k.stage))) byte (memory_of t)).seen.slot }
+
+-- what a lane has seen once it has taken the step, where it had seen h; an idle lane takes none
+abbrev pub seen_after : Sizes → Table → Lane → ℕ → List Sight → List Sight
+seen_after z t Idle byte h = h
+seen_after z t (Busy k) byte h = sight z t k byte ∷ h
 
 -- the newest step first, from nothing at each start of lane j; h is what was seen before
 abbrev pub history_from : Sizes → ℕ → List Sight → Table → List Event → List Sight
 history_from z j h t [] = h
 history_from z j h t (start i r ∷ es) = history_from z j (cond (eqb i j) [] h) (next z t (start i r)) es
-history_from z j h t (step i byte ∷ es) = history_from z j (cond (eqb i j) (sight z t i byte ∷ h) h) (next z t (step i byte)) es
+history_from z j h t (step i byte ∷ es) = history_from z j (cond (eqb i j) (seen_after z t (lane_at t.lanes i) byte h) h) (next z t (step i byte)) es
 
 -- what the operation that lane j started last has seen in a run
 abbrev pub history : Sizes → ℕ → Table → List Event → List Sight
@@ -38,7 +47,7 @@ history z j t es = history_from z j [] t es
 
 -- ---- what a step is, by its stage
 
--- a look for the key or for room, at the n-th place of the first row and then the second; an attempt's look at a column; a write; a pick; a swing
+-- a look for the key or for room, at the n-th slot of the first row and then the second; an attempt's look at a column; a write; a pick; a swing
 pub data Item : Type 0 where
   seeks : ℕ → Item
   rooms : ℕ → Item
@@ -50,29 +59,15 @@ pub data Item : Type 0 where
 
 -- "A step is one of the items below"
 abbrev pub item : Sizes → Stage → Item
-item z Idle = other
-item z (TakeMain g) = other
-item z (TakeFirst g) = other
-item z (SeekFirst column) = seeks column
-item z (TakeSecond g) = other
-item z (SeekSecond column) = seeks (z.columns + column)
-item z (RoomFirst column) = rooms column
-item z (RoomSecond column) = rooms (z.columns + column)
+item z (Seek side column) = seeks (by_side side 0 z.columns + column)
+item z (SeekRoom side column) = rooms (by_side side 0 z.columns + column)
 item z (WriteHit side column) = writes
 item z (WriteRoom side column) = writes
 item z Pick = picks
-item z (DropFirst o) = other
-item z (DropSecond o) = other
-item z (DropMain e) = other
-item z (TakeNext g t) = other
 item z (LookNext column t) = tries column
 item z (PickNext t) = picks
-item z (DropNext f t) = other
-item z (TakeLow g w) = other
-item z (TakeHigh g w) = other
 item z (Swing w) = swings
-item z (DropLow w) = other
-item z (DropHigh w) = other
+item z s = other
 
 -- "A hit is overwritten in one step", "one step empties the slot", "fill it in one step"
 abbrev pub is_write : Item → Bool
@@ -106,7 +101,7 @@ is_swing other = false
 
 -- what a step was
 abbrev pub item_of : Sizes → Sight → Item
-item_of z s = item z s.lane.stage
+item_of z s = item z s.task.stage
 
 -- ---- counts
 
@@ -159,10 +154,10 @@ miss_on second picks hit m = m
 miss_on second swings hit m = m
 miss_on second other hit m = m
 
--- the places of its two home rows where it has looked for the key after the walk and not seen it, one after the other
+-- the slots of its two home rows where it has looked for the key after the walk and not seen it, one after the other
 abbrev pub missed : Sizes → List Sight → ℕ
 missed z [] = 0
-missed z (s ∷ h) = miss_on (after_walk (picks_in z h) (swings_in z h)) (item_of z s) (holds s.slot s.lane.key) (missed z h)
+missed z (s ∷ h) = miss_on (after_walk (picks_in z h) (swings_in z h)) (item_of z s) (has_key s.slot s.task.key) (missed z h)
 
 -- a step's part in `crowded`; second says that it comes after the walk
 abbrev pub room_on : Bool → Item → Bool → ℕ → ℕ
@@ -174,7 +169,7 @@ room_on second picks full m = m
 room_on second swings full m = m
 room_on second other full m = m
 
--- the places of its two home rows where it has looked for room after the walk and seen none, one after the other
+-- the slots of its two home rows where it has looked for room after the walk and seen none, one after the other
 abbrev pub crowded : Sizes → List Sight → ℕ
 crowded z [] = 0
 crowded z (s ∷ h) = room_on (after_walk (picks_in z h) (swings_in z h)) (item_of z s) (is_full s.slot) (crowded z h)

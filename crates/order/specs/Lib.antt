@@ -1,4 +1,4 @@
 pub mod Run
-pub mod Place
+pub mod Settle
 pub mod History
 pub mod Demand2

@@ -1,28 +1,39 @@
--- A place after a store: that place, another one, and the length, from the laws of records; the path emptied; its last place.
+-- A place after a store: that place, another one, and the length, from the laws of views; the path emptied; its last place.
 -- Assumes nothing.
 use mathlib.Core.Path.{◌≡◌, refl}
 use mathlib.Core.Logic.{◌≢◌}
-use mathlib.Core.List.{List}
-use Prim.Native.Nat.{ℕ, suc, ◌+◌, ◌-◌, ◌*◌, ◌≤◌}
+use mathlib.Core.List.{List, [], ◌∷◌}
+use Prim.Native.Nat.{ℕ, suc, ◌-◌}
 use native.Mathlib.Omega.{arith}
 use lib.ListN.{length, length-replicate}
 use lib.Dec.{lit<}
 use borrow.Author.Tests.{ne_eqb}
-use Rattle.lists.proofs.Records.{cell_same, cell_other, put_length, cell_zeros}
+use Rattle.lists.specs.Records.{HasRecord}
+use Rattle.lists.proofs.Records.{put_length, cell_zeros}
+use Rattle.lists.proofs.Views.{View, view_same, view_other}
 use Rattle.paths.specs.declared.Place.{Place}
-use Rattle.paths.specs.Path.{place_at, with_place, no_place, emptied, last_of}
+use Rattle.paths.specs.Path.{place_numbers, place_at, with_place, no_place, emptied, last_of}
 
-pub place_same : (ps : List ℕ) (i : ℕ) (p : Place) → i * 3 + 3 ≤ length ps → place_at (with_place ps i p) i ≡ p
-unfolding place_at with_place
-place_same ps i p l = rw (cell_same 3 ps i _ 0 refl (lit< tt) l, cell_same 3 ps i _ 1 refl (lit< tt) l, cell_same 3 ps i _ 2 refl (lit< tt) l)
+place_view : View place_numbers (λ g. record { row = g 0; column = g 1; key = g 2 }) (λ (p : Place). p.row ∷ p.column ∷ p.key ∷ [])
+place_view =
+    record {
+      long = λ p. refl;
+      alike = λ g h e z. record { row = e 0 (lit< tt) z; column = e 1 (lit< tt) z; key = e 2 (lit< tt) z };
+      back = λ p. refl;
+    }
 
-pub place_other : (ps : List ℕ) (i : ℕ) (p : Place) (j : ℕ) → j ≢ i → place_at (with_place ps i p) j ≡ place_at ps j
-unfolding place_at with_place
-place_other ps i p j d = rw (cell_other 3 ps i _ j 0 refl (lit< tt) d, cell_other 3 ps i _ j 1 refl (lit< tt) d, cell_other 3 ps i _ j 2 refl (lit< tt) d)
+module _ (ps : List ℕ) (i : ℕ) (p : Place) where
+  pub place_same : HasRecord place_numbers ps i → place_at (with_place ps i p) i ≡ p
+  unfolding place_at with_place
+  place_same l = view_same place_view ps i p l
 
-pub place_length : (ps : List ℕ) (i : ℕ) (p : Place) → length (with_place ps i p) ≡ length ps
-unfolding with_place
-place_length ps i p = put_length 3 ps i _
+  pub place_other : (j : ℕ) → j ≢ i → place_at (with_place ps i p) j ≡ place_at ps j
+  unfolding place_at with_place
+  place_other j d = view_other place_view ps i p j d
+
+  pub place_length : length (with_place ps i p) ≡ length ps
+  unfolding with_place
+  place_length = put_length place_numbers ps i _
 
 pub emptied_at : (ps : List ℕ) (i : ℕ) → place_at (emptied ps) i ≡ no_place
 unfolding place_at emptied

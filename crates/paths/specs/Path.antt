@@ -1,6 +1,6 @@
 -- 01, "What the table holds": the path store.
 -- Assumes nothing.
-use Rattle.std.specs.Prelude.{ℕ, ◌+◌, ◌-◌, List, [], ◌∷◌, cond, eqb, length, replicate}
+use Rattle.std.specs.Prelude.{ℕ, ◌+◌, ◌-◌, ◌*◌, List, [], ◌∷◌, cond, eqb, length, replicate}
 use Rattle.lists.specs.Records.{cell, put}
 use Rattle.places.specs.declared.Sizes.{Sizes}
 use Rattle.places.specs.Table.{home_one, home_two}
@@ -10,13 +10,21 @@ use Rattle.paths.specs.declared.Place.{Place}
 abbrev pub path_places : Sizes → ℕ
 path_places z = z.rows + 2
 
--- a place is three numbers: row, column, key
+-- a place is three numbers
+abbrev pub place_numbers : ℕ
+place_numbers = 3
+
+-- how many all places take
+abbrev pub path_words : Sizes → ℕ
+path_words z = path_places z * place_numbers
+
+-- row, column, key
 unfoldable pub place_at : List ℕ → ℕ → Place
-place_at ps i = record { row = cell 3 ps i 0; column = cell 3 ps i 1; key = cell 3 ps i 2 }
+place_at ps i = record { row = cell place_numbers ps i 0; column = cell place_numbers ps i 1; key = cell place_numbers ps i 2 }
 
 -- the store with p as place i
 unfoldable pub with_place : List ℕ → ℕ → Place → List ℕ
-with_place ps i p = put 3 ps i (p.row ∷ p.column ∷ p.key ∷ [])
+with_place ps i p = put place_numbers ps i (p.row ∷ p.column ∷ p.key ∷ [])
 
 -- "A place that leaves the path becomes zeros"
 abbrev pub no_place : Place

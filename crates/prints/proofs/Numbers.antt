@@ -3,14 +3,14 @@
 use mathlib.Core.Path.{◌≡◌, refl, sym, ◌∙◌, ap}
 use mathlib.Core.Bool.{Bool, true, false, cond}
 use mathlib.Core.List.{List, [], ◌∷◌, ◌++◌}
-use Prim.Native.Nat.{ℕ, zero, suc, ◌+◌, ◌/◌, ◌%◌, ◌≤◌, ◌<◌}
+use Prim.Native.Nat.{ℕ, zero, suc, ◌+◌, ◌/◌, ◌%◌, ◌^◌, ◌≤◌, ◌<◌}
 use native.Mathlib.Omega.{arith}
 use lib.Dec.{ltb}
 use lib.ListN.{length, length-append}
 use borrow.Author.Tests.{lt-ltb, le-ltb}
 use Rattle.std.specs.Fmt.{decimal as std_decimal}
 use Rattle.std.proofs.lemmas.Fmt.{AppendsLastDigit, decimal_from_appends, decimal_digit, decimal_step, length-decimal-le}
-use Rattle.prints.specs.declared.Out.{Out}
+use Rattle.prints.specs.declared.text.Out.{Out}
 use Rattle.prints.specs.Put.{Puts}
 use Rattle.prints.specs.Text.{digit, digits_in, decimal}
 use Rattle.prints.proofs.Puts.{puts_then}
@@ -26,6 +26,10 @@ decimal_is n h = decimal_from_appends digits_in by_last_digit 10 n (omega arith)
 
 pub decimal_few : (n : ℕ) → n < 10 → decimal n ≡ digit n ∷ []
 decimal_few n h = decimal_is n (omega arith) ∙ decimal_digit n h
+
+-- a number below 10 ^ k has at most k digits
+pub decimal_short : (k n : ℕ) → 0 < k → n < 10 ^ k → n < 4294967296 → length (decimal n) ≤ k
+decimal_short k n p h l = rw (decimal_is n l) (length-decimal-le k n p h (omega arith))
 
 decimal_more : (n : ℕ) → 10 ≤ n → n < 4294967296 → decimal n ≡ decimal (n / 10) ++ digit (n % 10) ∷ []
 decimal_more n h l =

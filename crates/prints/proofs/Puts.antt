@@ -8,7 +8,7 @@ use native.Mathlib.Omega.{arith}
 use lib.ListN.{length, take, drop, set, length-append}
 use lib.Seq.{sets, sets-eq, length-sets, drop-drop}
 use borrow.Rule.Slice.PartMut.{put_mid}
-use Rattle.prints.specs.declared.Out.{Out}
+use Rattle.prints.specs.declared.text.Out.{Out}
 use Rattle.prints.specs.Put.{Put, Puts}
 
 sets_append : (p q l : List ℕ) (i : ℕ) → sets (sets l i p) (i + length p) q ≡ sets l i (p ++ q)

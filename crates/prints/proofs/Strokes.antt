@@ -9,7 +9,7 @@ use native.Mathlib.Omega.{arith}
 use lib.Dec.{eqb}
 use lib.ListN.{length, get_or, drop, drop_of_length-le}
 use lib.Seq.{drop-cons}
-use Rattle.prints.specs.declared.TheConstants.{LETTERS}
+use Rattle.prints.specs.declared.text.TheConstants.{LETTERS}
 use Rattle.prints.specs.Put.{Put}
 use Rattle.prints.specs.Text.{letters, dot, stroke_from, stroke_of}
 use Rattle.prints.proofs.Puts.{Amid, amid_more, amid_end}

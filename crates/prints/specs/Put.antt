@@ -2,7 +2,7 @@
 -- Assumes nothing.
 use Rattle.std.specs.Prelude.{ℕ, ◌+◌, ◌≡◌, List, length}
 use Rattle.std.proofs.lemmas.List.Edits.{sets}
-use Rattle.prints.specs.declared.Out.{Out}
+use Rattle.prints.specs.declared.text.Out.{Out}
 
 -- piece stands in out from offset at on, every other byte is as it was, and next is the offset after it
 pub record Put (next at : ℕ) (was out piece : List ℕ) : Type 0 where

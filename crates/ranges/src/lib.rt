@@ -1,18 +1,20 @@
 // The range test of a lane: every number is in range for the place in the steps where the lane stands.
-// Uses `records`, `rows` and what stands below them.
+// Uses `rows` and what stands below them.
 #![tactic(auto)]
 
-ghost use Rattle.std.specs.Prelude.{◌≡◌, not, ◌∷◌, ◌+◌, eqb};
+ghost use Rattle.std.specs.Prelude.{◌≡◌, ◌+◌, eqb};
 ghost use Rattle.lists.specs.Below.{all_of};
-ghost use Rattle.machine.specs.Steps.{swing_rows};
-ghost use Rattle.machine.specs.Claims.{only_seeks, writes_hit, is_insert, is_first_pass, is_second_pass, grab_in, outcome_in, ending_in, trail_in, found_in, walk_in, stage_in, lane_in};
+ghost use Rattle.locks.specs.Record.{grab_in};
+ghost use Rattle.machine.specs.Claims.{outcome_in, ending_in, trail_in, found_in, walk_in};
+ghost use Rattle.machine.specs.Sides.{apart_at};
+ghost use Rattle.machine.specs.Rules.{only_seeks, writes_hit, is_first_pass, is_second_pass};
+ghost use Rattle.machine.specs.Stages.{stage_in, task_in, lane_in};
 
-use locks::{Grab, Mode};
-use machine::{Ending, Lane, Op, Outcome, Stage, Trail, Walk};
-use paths::Place;
+use locks::Mode;
+use machine::{Ending, Lane, Op, Outcome, Side, Stage, Task, Trail, Walk};
+use paths::{Place, path_places};
 use places::{Layout, MAX_KEY};
-use records::is_idle;
-use rows::{drops_two, mode_of, shared_rows, swing_rows};
+use rows::{drops_two, is_insert, mode_of, shared_rows, swing_rows};
 
 // A read or a delete.
 fn only_seeks(op: Op) -> bool
@@ -28,12 +30,6 @@ fn writes_hit(op: Op) -> bool
     matches!(op, Op::Delete | Op::Insert | Op::Again)
 }
 
-fn is_insert(op: Op) -> bool
-    ensures { result ≡ is_insert op }
-{
-    matches!(op, Op::Insert | Op::Again)
-}
-
 fn is_first_pass(op: Op) -> bool
     ensures { result ≡ is_first_pass op }
 {
@@ -44,17 +40,6 @@ fn is_second_pass(op: Op) -> bool
     ensures { result ≡ is_second_pass op }
 {
     op == Op::Again
-}
-
-// A grab that takes a lock in this mode; a noted count is at most the number of lanes.
-fn grab_in(z: Layout, mode: Mode, grab: Grab) -> bool
-    ensures { result ≡ grab_in z.sizes mode grab }
-{
-    match grab {
-        Grab::R1 | Grab::R3 | Grab::R4 => mode == Mode::Reading,
-        Grab::R2(noted) => mode == Mode::Reading && noted <= z.sizes.lanes,
-        Grab::W1 | Grab::W2 => mode == Mode::Writing,
-    }
 }
 
 // Which operation may come to which outcome.
@@ -76,7 +61,7 @@ fn ending_in(z: Layout, op: Op, ending: Ending) -> bool
 {
     match ending {
         Ending::Yes => is_insert(op),
-        Ending::Searched(places) => is_first_pass(op) && places == z.sizes.rows + 2,
+        Ending::Searched(places) => is_first_pass(op) && places == path_places(z),
         Ending::Walked => is_second_pass(op),
     }
 }
@@ -113,54 +98,64 @@ fn walk_in(z: Layout, last: Place, w: Walk) -> bool
         && w.row == last.other_row(z)
 }
 
-// The rows of the swing have two locks.
-fn apart_in(z: Layout, last: Place, w: Walk) -> bool
-    ensures { result ≡ all_of (not (swing_rows z.sizes last w).shared ∷ walk_in z.sizes last w) }
+// Nothing is done at the second of two rows that have one lock.
+fn apart_at(side: Side, shared: bool) -> bool
+    ensures { result ≡ apart_at side shared }
 {
-    !swing_rows(z, last, w).shared && walk_in(z, last, w)
+    match side {
+        Side::First => true,
+        Side::Second => !shared,
+    }
 }
 
 // The numbers of the stage; last is the last place on the lane's path.
-fn stage_in(z: Layout, l: Lane, last: Place) -> bool
-    ensures { result ≡ all_of (stage_in z.sizes l last l.stage) }
+#[tactic(auto, unfolding(machine::specs::Stages::item_at))]
+fn stage_in(z: Layout, k: Task, last: Place) -> bool
+    ensures { result ≡ all_of (stage_in z.sizes k last k.stage) }
 {
     let columns = z.sizes.columns;
-    match l.stage {
-        Stage::Idle => is_idle(l) && l.key == 0,
-        Stage::TakeMain(grab) => is_first_pass(l.op) && grab_in(z, Mode::Writing, grab),
-        Stage::TakeFirst(grab) => !is_idle(l) && grab_in(z, mode_of(l.op), grab),
-        Stage::TakeSecond(grab) => !is_idle(l)
-            && grab_in(z, mode_of(l.op), grab)
-            && !shared_rows(z, l.key),
-        Stage::SeekFirst(column) | Stage::SeekSecond(column) => !is_idle(l) && column < columns,
-        Stage::RoomFirst(column) | Stage::RoomSecond(column) | Stage::WriteRoom(_, column) =>
-            is_insert(l.op) && column < columns,
-        Stage::WriteHit(_, column) => writes_hit(l.op) && column < columns,
-        Stage::Pick => is_first_pass(l.op),
-        Stage::DropFirst(outcome) => outcome_in(z, l.op, outcome),
-        Stage::DropSecond(outcome) => drops_two(shared_rows(z, l.key), outcome)
-            && outcome_in(z, l.op, outcome),
-        Stage::DropMain(ending) => ending_in(z, l.op, ending),
-        Stage::TakeNext(grab, t) => is_first_pass(l.op)
-            && grab_in(z, Mode::Reading, grab)
+    match k.stage {
+        Stage::TakeMain(grab) => is_first_pass(k.op) && grab.fits(z.sizes, Mode::Writing),
+        Stage::Take(side, grab) => grab.fits(z.sizes, mode_of(k.op))
+            && apart_at(side, shared_rows(z, k.key)),
+        Stage::Seek(_, column) => column < columns,
+        Stage::SeekRoom(_, column) | Stage::WriteRoom(_, column) => is_insert(k.op)
+            && column < columns,
+        Stage::WriteHit(_, column) => writes_hit(k.op) && column < columns,
+        Stage::Pick => is_first_pass(k.op),
+        Stage::Drop(side, outcome) => side.choose(true, drops_two(shared_rows(z, k.key), outcome))
+            && outcome_in(z, k.op, outcome),
+        Stage::DropMain(ending) => ending_in(z, k.op, ending),
+        Stage::TakeNext(grab, t) => is_first_pass(k.op)
+            && grab.fits(z.sizes, Mode::Reading)
             && trail_in(z, t),
-        Stage::LookNext(column, t) => is_first_pass(l.op) && column < columns && trail_in(z, t),
-        Stage::PickNext(t) => is_first_pass(l.op) && trail_in(z, t),
-        Stage::DropNext(found, t) => is_first_pass(l.op) && found_in(z, found, t),
-        Stage::TakeLow(grab, w) => is_first_pass(l.op)
-            && grab_in(z, Mode::Writing, grab)
+        Stage::LookNext(column, t) => is_first_pass(k.op) && column < columns && trail_in(z, t),
+        Stage::PickNext(t) => is_first_pass(k.op) && trail_in(z, t),
+        Stage::DropNext(found, t) => is_first_pass(k.op) && found_in(z, found, t),
+        Stage::TakeSwing(side, grab, w) => is_first_pass(k.op)
+            && grab.fits(z.sizes, Mode::Writing)
+            && apart_at(side, swing_rows(z, last, w).shared)
             && walk_in(z, last, w),
-        Stage::TakeHigh(grab, w) => is_first_pass(l.op)
-            && grab_in(z, Mode::Writing, grab)
-            && apart_in(z, last, w),
-        Stage::Swing(w) | Stage::DropLow(w) => is_first_pass(l.op) && walk_in(z, last, w),
-        Stage::DropHigh(w) => is_first_pass(l.op) && apart_in(z, last, w),
+        Stage::Swing(w) => is_first_pass(k.op) && walk_in(z, last, w),
+        Stage::DropSwing(side, w) => is_first_pass(k.op)
+            && apart_at(side, swing_rows(z, last, w).shared)
+            && walk_in(z, last, w),
     }
 }
 
 // A key is a stroke, only an insert brings a value, and the stage's numbers are in range.
+fn task_in(z: Layout, k: Task, last: Place) -> bool
+    ensures { result ≡ all_of (task_in z.sizes k last) }
+{
+    k.key <= MAX_KEY && (is_insert(k.op) || k.value == 0) && stage_in(z, k, last)
+}
+
+// A lane's numbers are in range: an idle one has none.
 pub fn lane_in(z: Layout, l: Lane, last: Place) -> bool
     ensures { result ≡ all_of (lane_in z.sizes l last) }
 {
-    l.key <= MAX_KEY && (is_insert(l.op) || l.value == 0) && stage_in(z, l, last)
+    match l {
+        Lane::Idle => true,
+        Lane::Busy(k) => task_in(z, k, last),
+    }
 }

@@ -2,23 +2,36 @@
 // whether it is idle, and whether 14 numbers are those of a lane. Uses `machine` and what stands below it.
 #![tactic(auto)]
 
-ghost use Rattle.std.specs.Prelude.{◌≡◌, ◌+◌, ◌*◌, ◌<◌, length};
-ghost use Rattle.machine.specs.Lane.{op_code, op_of, grab_code, grab_noted, grab_from, side_code, side_of, outcome_words, outcome_of, words, ending_words, ending_of, found_words, found_of, walk_words, stage_words, stage_of, words_at, numbers_of, lane_at, with_lane};
-ghost use Rattle.machine.specs.Lane.{decodes as Lane·decodes};
-ghost use Rattle.machine.specs.Claims.{is_idle_op};
+ghost use Rattle.std.specs.Prelude.{◌≡◌, eqb, get_or};
+ghost use Rattle.locks.specs.Record.{grab_code, grab_noted, grab_from};
+ghost use Rattle.machine.specs.Lane.{op_code, side_code, outcome_words, ending_words, found_words, stage_words, with_lane, lane_numbers, lane_words, code_words, in_a_row};
+ghost use Rattle.lists.specs.Records.{HasRecord, cell, put};
+ghost use Rattle.lists.specs.Below.{all_below};
+ghost use Rattle.machine.specs.Back.{op_of, side_of, outcome_of, ending_of, found_of, stage_of, words_at, task_at, lane_at, decodes as Back·decodes};
+ghost use Rattle.machine.specs.Stages.{is_idle};
 ghost use Rattle.records.specs.StageWords.{as_words};
 
 use locks::Grab;
-use machine::{Ending, Lane, Op, Outcome, Side, Stage, Trail, Walk};
+use machine::{Ending, Lane, Op, Outcome, Side, Stage, Task, Trail, Walk};
+use places::{Layout, MAX_LANES};
 
 // How many numbers a lane takes.
 pub const LANE_NUMBERS: usize = 14;
+
+// How many the lanes of the largest table take.
+pub const MAX_LANE_WORDS: usize = MAX_LANES as usize * LANE_NUMBERS;
+
+// How many numbers the lanes of a table take.
+pub fn lane_words(z: Layout) -> usize
+    ensures { result ≡ lane_words z.sizes }
+{
+    z.sizes.lanes as usize * LANE_NUMBERS
+}
 
 pub fn op_code(op: Op) -> u32
     ensures { result ≡ op_code op }
 {
     match op {
-        Op::NoOp => 0,
         Op::Read => 1,
         Op::Delete => 2,
         Op::Insert => 3,
@@ -30,46 +43,10 @@ fn op_of(code: u32) -> Op
     ensures { result ≡ op_of code }
 {
     match code {
-        1 => Op::Read,
         2 => Op::Delete,
         3 => Op::Insert,
         4 => Op::Again,
-        _ => Op::NoOp,
-    }
-}
-
-fn grab_code(grab: Grab) -> u32
-    ensures { result ≡ grab_code grab }
-{
-    match grab {
-        Grab::R1 => 1,
-        Grab::R2(_) => 2,
-        Grab::R3 => 3,
-        Grab::R4 => 4,
-        Grab::W1 => 5,
-        Grab::W2 => 6,
-    }
-}
-
-fn grab_noted(grab: Grab) -> u32
-    ensures { result ≡ grab_noted grab }
-{
-    match grab {
-        Grab::R2(noted) => noted,
-        _ => 0,
-    }
-}
-
-fn grab_from(code: u32, noted: u32) -> Grab
-    ensures { result ≡ grab_from code noted }
-{
-    match code {
-        2 => Grab::R2(noted),
-        3 => Grab::R3,
-        4 => Grab::R4,
-        5 => Grab::W1,
-        6 => Grab::W2,
-        _ => Grab::R1,
+        _ => Op::Read,
     }
 }
 
@@ -92,7 +69,7 @@ fn side_of(code: u32) -> Side
 }
 
 // The numbers of a stage, 0 where it has no use for one.
-#[derive(Clone, Copy, PartialEq, Eq, Default)]
+#[derive(Clone, Copy, Default)]
 struct StageWords {
     code: u32,
     grab: u32,
@@ -112,8 +89,8 @@ impl StageWords {
         ensures { result ≡ record self { grab = grab_code grab; noted = grab_noted grab } }
     {
         StageWords {
-            grab: grab_code(grab),
-            noted: grab_noted(grab),
+            grab: grab.code(),
+            noted: grab.noted(),
             ..self
         }
     }
@@ -169,7 +146,7 @@ impl StageWords {
 
 // The numbers of a stage that has only its code.
 fn coded(code: u32) -> StageWords
-    ensures { as_words result ≡ words code 0 0 0 0 0 0 0 0 0 }
+    ensures { as_words result ≡ code_words code }
 {
     StageWords {
         code,
@@ -178,10 +155,9 @@ fn coded(code: u32) -> StageWords
 }
 
 // Those of a pass that releases its rows.
-fn outcome_words(code: u32, outcome: Outcome) -> StageWords
-    ensures { as_words result ≡ outcome_words code outcome }
+fn outcome_words(words: StageWords, outcome: Outcome) -> StageWords
+    ensures { as_words result ≡ outcome_words (as_words words) outcome }
 {
-    let words = coded(code);
     match outcome {
         Outcome::Hit(side, column, seen) => StageWords {
             seen,
@@ -196,10 +172,9 @@ fn outcome_words(code: u32, outcome: Outcome) -> StageWords
 }
 
 // Those of an insert's release of main.
-fn ending_words(ending: Ending) -> StageWords
-    ensures { as_words result ≡ ending_words ending }
+fn ending_words(words: StageWords, ending: Ending) -> StageWords
+    ensures { as_words result ≡ ending_words (as_words words) ending }
 {
-    let words = coded(13);
     match ending {
         Ending::Yes => words.with_ending(1),
         Ending::Searched(places) => words.with_ending(2).with_places(places),
@@ -207,11 +182,10 @@ fn ending_words(ending: Ending) -> StageWords
     }
 }
 
-// Those of the search's release.
-fn found_words(found: Option<u32>, trail: Trail) -> StageWords
-    ensures { as_words result ≡ found_words found trail }
+// Those of what an attempt came to.
+fn found_words(words: StageWords, found: Option<u32>) -> StageWords
+    ensures { as_words result ≡ found_words (as_words words) found }
 {
-    let words = coded(17).with_trail(trail);
     match found {
         Some(column) => words.with_ending(1).with_column(column),
         None => words.with_ending(2),
@@ -256,29 +230,24 @@ impl From<Stage> for StageWords {
 
     fn from(stage: Stage) -> StageWords {
         match stage {
-            Stage::Idle => coded(0),
             Stage::TakeMain(grab) => coded(1).with_grab(grab),
-            Stage::TakeFirst(grab) => coded(2).with_grab(grab),
-            Stage::SeekFirst(column) => coded(3).with_column(column),
-            Stage::TakeSecond(grab) => coded(4).with_grab(grab),
-            Stage::SeekSecond(column) => coded(5).with_column(column),
-            Stage::RoomFirst(column) => coded(6).with_column(column),
-            Stage::RoomSecond(column) => coded(7).with_column(column),
+            Stage::Take(side, grab) => coded(side.choose(2, 4)).with_grab(grab),
+            Stage::Seek(side, column) => coded(side.choose(3, 5)).with_column(column),
+            Stage::SeekRoom(side, column) => coded(side.choose(6, 7)).with_column(column),
             Stage::WriteHit(side, column) => coded(8).with_side(side).with_column(column),
             Stage::WriteRoom(side, column) => coded(9).with_side(side).with_column(column),
             Stage::Pick => coded(10),
-            Stage::DropFirst(outcome) => outcome_words(11, outcome),
-            Stage::DropSecond(outcome) => outcome_words(12, outcome),
-            Stage::DropMain(ending) => ending_words(ending),
+            Stage::Drop(side, outcome) => outcome_words(coded(side.choose(11, 12)), outcome),
+            Stage::DropMain(ending) => ending_words(coded(13), ending),
             Stage::TakeNext(grab, trail) => coded(14).with_grab(grab).with_trail(trail),
             Stage::LookNext(column, trail) => coded(15).with_column(column).with_trail(trail),
             Stage::PickNext(trail) => coded(16).with_trail(trail),
-            Stage::DropNext(found, trail) => found_words(found, trail),
-            Stage::TakeLow(grab, walk) => coded(18).with_grab(grab).with_walk(walk),
-            Stage::TakeHigh(grab, walk) => coded(19).with_grab(grab).with_walk(walk),
+            Stage::DropNext(found, trail) => found_words(coded(17), found).with_trail(trail),
+            Stage::TakeSwing(side, grab, walk) => coded(side.choose(18, 19))
+                .with_grab(grab)
+                .with_walk(walk),
             Stage::Swing(walk) => coded(20).with_walk(walk),
-            Stage::DropLow(walk) => coded(21).with_walk(walk),
-            Stage::DropHigh(walk) => coded(22).with_walk(walk),
+            Stage::DropSwing(side, walk) => coded(side.choose(21, 22)).with_walk(walk),
         }
     }
 }
@@ -287,7 +256,7 @@ impl From<StageWords> for Stage {
     ghost from_gives = { λ w result. result ≡ stage_of (as_words w) };
 
     fn from(w: StageWords) -> Stage {
-        let grab = grab_from(w.grab, w.noted);
+        let grab = Grab::read(w.grab, w.noted);
         let side = side_of(w.side);
         let trail = Trail {
             picks: w.picks,
@@ -300,28 +269,28 @@ impl From<StageWords> for Stage {
         };
         match w.code {
             1 => Stage::TakeMain(grab),
-            2 => Stage::TakeFirst(grab),
-            3 => Stage::SeekFirst(w.column),
-            4 => Stage::TakeSecond(grab),
-            5 => Stage::SeekSecond(w.column),
-            6 => Stage::RoomFirst(w.column),
-            7 => Stage::RoomSecond(w.column),
+            2 => Stage::Take(Side::First, grab),
+            3 => Stage::Seek(Side::First, w.column),
+            4 => Stage::Take(Side::Second, grab),
+            5 => Stage::Seek(Side::Second, w.column),
+            6 => Stage::SeekRoom(Side::First, w.column),
+            7 => Stage::SeekRoom(Side::Second, w.column),
             8 => Stage::WriteHit(side, w.column),
             9 => Stage::WriteRoom(side, w.column),
-            10 => Stage::Pick,
-            11 => Stage::DropFirst(outcome_of(w)),
-            12 => Stage::DropSecond(outcome_of(w)),
+            11 => Stage::Drop(Side::First, outcome_of(w)),
+            12 => Stage::Drop(Side::Second, outcome_of(w)),
             13 => Stage::DropMain(ending_of(w)),
             14 => Stage::TakeNext(grab, trail),
             15 => Stage::LookNext(w.column, trail),
             16 => Stage::PickNext(trail),
             17 => Stage::DropNext(found_of(w), trail),
-            18 => Stage::TakeLow(grab, walk),
-            19 => Stage::TakeHigh(grab, walk),
+            18 => Stage::TakeSwing(Side::First, grab, walk),
+            19 => Stage::TakeSwing(Side::Second, grab, walk),
             20 => Stage::Swing(walk),
-            21 => Stage::DropLow(walk),
-            22 => Stage::DropHigh(walk),
-            _ => Stage::Idle,
+            21 => Stage::DropSwing(Side::First, walk),
+            22 => Stage::DropSwing(Side::Second, walk),
+            // 10, and what is no code.
+            _ => Stage::Pick,
         }
     }
 }
@@ -329,7 +298,7 @@ impl From<StageWords> for Stage {
 // The numbers of the stage in record i.
 #[tactic(auto, unfolding(lists::specs::Records::cell))]
 fn words_at(lanes: &[u32], i: usize) -> StageWords
-    requires { i * 14 + 13 < length lanes.now }
+    requires { HasRecord lane_numbers lanes.now i }
     ensures { as_words result ≡ words_at lanes.now i }
 {
     let b = i * LANE_NUMBERS;
@@ -348,13 +317,13 @@ fn words_at(lanes: &[u32], i: usize) -> StageWords
     }
 }
 
-// The lane that record i is read as.
-pub fn lane_at(lanes: &[u32], i: usize) -> Lane
-    requires { i * 14 + 13 < length lanes.now }
-    ensures { result ≡ lane_at lanes.now i }
+// The task that record i is read as, where the lane is not idle.
+fn task_at(lanes: &[u32], i: usize) -> Task
+    requires { HasRecord lane_numbers lanes.now i }
+    ensures { result ≡ task_at lanes.now i }
 {
     let b = i * LANE_NUMBERS;
-    Lane {
+    Task {
         op: op_of(lanes[b + 1]),
         key: lanes[b + 2],
         value: lanes[b + 3],
@@ -362,16 +331,29 @@ pub fn lane_at(lanes: &[u32], i: usize) -> Lane
     }
 }
 
-pub fn set_lane(lanes: &mut [u32], i: usize, l: Lane)
-    requires { i * 14 + 13 < length lanes.old }
-    ensures { lanes.new ≡ with_lane lanes.old i l }
+// The lane that record i is read as.
+#[tactic(auto, unfolding(machine::specs::Back::lane_at, lists::specs::Records::cell))]
+pub fn lane_at(lanes: &[u32], i: usize) -> Lane
+    requires { HasRecord lane_numbers lanes.now i }
+    ensures { result ≡ lane_at lanes.now i }
+{
+    if lanes[i * LANE_NUMBERS + 1] == 0 {
+        Lane::Idle
+    } else {
+        Lane::Busy(task_at(lanes, i))
+    }
+}
+
+// Record i becomes these numbers, in the order of the record.
+fn set_numbers(lanes: &mut [u32], i: usize, op: u32, key: u32, value: u32, w: StageWords)
+    requires { HasRecord lane_numbers lanes.old i }
+    ensures { lanes.new ≡ put lane_numbers lanes.old i (in_a_row op key value (as_words w)) }
 {
     let b = i * LANE_NUMBERS;
-    let w = StageWords::from(l.stage);
     lanes[b] = w.code;
-    lanes[b + 1] = op_code(l.op);
-    lanes[b + 2] = l.key;
-    lanes[b + 3] = l.value;
+    lanes[b + 1] = op;
+    lanes[b + 2] = key;
+    lanes[b + 3] = value;
     lanes[b + 4] = w.grab;
     lanes[b + 5] = w.noted;
     lanes[b + 6] = w.side;
@@ -384,20 +366,69 @@ pub fn set_lane(lanes: &mut [u32], i: usize, l: Lane)
     lanes[b + 13] = w.seen;
 }
 
-// The numbers of record i are those of a lane: what they are read as has those numbers. A key and a value are read as they are.
-pub fn decodes(lanes: &[u32], i: usize) -> bool
-    requires { i * 14 + 13 < length lanes.now }
-    ensures { result ≡ Lane·decodes lanes.now i }
+#[tactic(auto, unfolding(machine::specs::Lane::with_lane, machine::specs::Lane::numbers_of))]
+pub fn set_lane(lanes: &mut [u32], i: usize, l: Lane)
+    requires { HasRecord lane_numbers lanes.old i }
+    ensures { lanes.new ≡ with_lane lanes.old i l }
 {
-    let code = lanes[i * LANE_NUMBERS + 1];
-    let words = words_at(lanes, i);
-    let read = StageWords::from(Stage::from(words));
-    code == op_code(op_of(code)) && words == read
+    match l {
+        Lane::Idle => set_numbers(lanes, i, 0, 0, 0, coded(0)),
+        Lane::Busy(task) => set_numbers(
+            lanes,
+            i,
+            op_code(task.op),
+            task.key,
+            task.value,
+            StageWords::from(task.stage),
+        ),
+    }
+}
+
+// Record i has these numbers, in the order of the record.
+#[tactic(auto, unfolding(lists::specs::Below::all_below, lists::specs::Records::cell))]
+fn has_numbers(lanes: &[u32], i: usize, op: u32, key: u32, value: u32, w: StageWords) -> bool
+    requires { HasRecord lane_numbers lanes.now i }
+    ensures { result ≡ all_below lane_numbers (λ f. eqb (cell lane_numbers lanes.now i f) (get_or (in_a_row op key value (as_words w)) f 0)) }
+{
+    let b = i * LANE_NUMBERS;
+    (lanes[b] == w.code)
+        & (lanes[b + 1] == op)
+        & (lanes[b + 2] == key)
+        & (lanes[b + 3] == value)
+        & (lanes[b + 4] == w.grab)
+        & (lanes[b + 5] == w.noted)
+        & (lanes[b + 6] == w.side)
+        & (lanes[b + 7] == w.column)
+        & (lanes[b + 8] == w.ending)
+        & (lanes[b + 9] == w.picks)
+        & (lanes[b + 10] == w.places)
+        & (lanes[b + 11] == w.free_row)
+        & (lanes[b + 12] == w.free_column)
+        & (lanes[b + 13] == w.seen)
+}
+
+// The numbers of record i are those of the lane that they are read as.
+#[tactic(auto, unfolding(machine::specs::Back::decodes, machine::specs::Lane::numbers_of))]
+pub fn decodes(lanes: &[u32], i: usize) -> bool
+    requires { HasRecord lane_numbers lanes.now i }
+    ensures { result ≡ Back·decodes lanes.now i }
+{
+    match lane_at(lanes, i) {
+        Lane::Idle => has_numbers(lanes, i, 0, 0, 0, coded(0)),
+        Lane::Busy(task) => has_numbers(
+            lanes,
+            i,
+            op_code(task.op),
+            task.key,
+            task.value,
+            StageWords::from(task.stage),
+        ),
+    }
 }
 
 // The lane does nothing.
 pub fn is_idle(lane: Lane) -> bool
-    ensures { result ≡ is_idle_op lane.op }
+    ensures { result ≡ is_idle lane }
 {
-    lane.op == Op::NoOp
+    matches!(lane, Lane::Idle)
 }

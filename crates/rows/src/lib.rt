@@ -5,12 +5,20 @@
 ghost use Rattle.std.specs.Prelude.{◌≡◌};
 ghost use Rattle.places.specs.Table.{lock_of};
 ghost use Rattle.paths.specs.Path.{other_row};
-ghost use Rattle.machine.specs.Steps.{mode_of, row_on, shared_rows, swing_rows, drops_two, sought_row};
+ghost use Rattle.machine.specs.Sides.{side_row, is_last};
+ghost use Rattle.machine.specs.Rules.{is_insert, mode_of, row_on, shared_rows, swing_rows, drops_two, sought_row};
 
 use locks::Mode;
 use machine::{Op, Outcome, Side, Walk};
 use paths::Place;
 use places::{Layout, RowPair};
+
+// An insert, in either pass.
+pub fn is_insert(op: Op) -> bool
+    ensures { result ≡ is_insert op }
+{
+    matches!(op, Op::Insert | Op::Again)
+}
 
 // What an operation takes its rows for.
 pub fn mode_of(op: Op) -> Mode
@@ -22,15 +30,31 @@ pub fn mode_of(op: Op) -> Mode
     }
 }
 
-// A home row of a key, in locking order.
-pub fn row_on(z: Layout, key: u32, side: Side) -> u32
-    ensures { result ≡ row_on z.sizes key side }
+// One of two rows in locking order.
+fn side_row(rows: RowPair, side: Side) -> u32
+    ensures { result ≡ side_row rows side }
 {
-    let rows = z.rows_of(key);
     match side {
         Side::First => rows.first,
         Side::Second => rows.second,
     }
+}
+
+// Its lock is the last of the two, or the only one.
+pub fn is_last(side: Side, shared: bool) -> bool
+    ensures { result ≡ is_last side shared }
+{
+    match side {
+        Side::First => shared,
+        Side::Second => true,
+    }
+}
+
+// A home row of a key, in locking order.
+pub fn row_on(z: Layout, key: u32, side: Side) -> u32
+    ensures { result ≡ row_on z.sizes key side }
+{
+    side_row(z.rows_of(key), side)
 }
 
 // Its lock.
@@ -88,14 +112,9 @@ pub fn swing_rows(z: Layout, last: Place, w: Walk) -> RowPair
     z.lock_order(last.row, w.row)
 }
 
-pub fn low_lock(z: Layout, last: Place, w: Walk) -> u32
-    ensures { result ≡ lock_of z.sizes (swing_rows z.sizes last w).first }
+// The lock of one of them.
+pub fn swing_lock(z: Layout, last: Place, w: Walk, side: Side) -> u32
+    ensures { result ≡ lock_of z.sizes (side_row (swing_rows z.sizes last w) side) }
 {
-    z.lock_of(swing_rows(z, last, w).first)
-}
-
-pub fn high_lock(z: Layout, last: Place, w: Walk) -> u32
-    ensures { result ≡ lock_of z.sizes (swing_rows z.sizes last w).second }
-{
-    z.lock_of(swing_rows(z, last, w).second)
+    z.lock_of(side_row(swing_rows(z, last, w), side))
 }

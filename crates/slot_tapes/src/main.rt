@@ -6,8 +6,8 @@ mod cases;
 
 use cases::{Case, HOMES, ORDER, ROWS, SHAPES, SOUND};
 use machine::Refusal;
-use places::{Layout, Sizes};
-use slots::Slots;
+use places::{Layout, MAX_COLUMNS, MAX_ROWS, Sizes};
+use slots::{MAX_SLOT_WORDS, Slots, slot_words};
 use std::io;
 
 fn main(rt: HostRuntime) -> io::Result<()> {
@@ -71,7 +71,7 @@ fn checked(case: Case) -> Result<(), Refusal> {
     };
     let z = Layout::new(sizes).ok_or(Refusal::BadSizes)?;
     let numbers = case.slots;
-    if numbers.len() != z.slot_count() * 3 {
+    if numbers.len() != slot_words(z) {
         return Err(Refusal::BadLengths);
     }
     Slots { z, numbers }.check()?;
@@ -79,14 +79,14 @@ fn checked(case: Case) -> Result<(), Refusal> {
 }
 
 fn say_large(rt: &impl Print) -> io::Result<()> {
-    let mut slots = [0u32; 1536];
-    slots[1535] = 1;
+    let mut slots = [0u32; MAX_SLOT_WORDS];
+    slots[MAX_SLOT_WORDS - 1] = 1;
     say(
         rt,
         Case {
-            name: "the last of 512 slots",
-            rows: 64,
-            columns: 8,
+            name: "the last slot of the largest table",
+            rows: MAX_ROWS,
+            columns: MAX_COLUMNS,
             slots: &slots,
         },
     )

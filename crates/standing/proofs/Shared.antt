@@ -7,24 +7,27 @@ use native.Mathlib.Omega.{arith}
 use Rattle.lists.specs.Below.{sum_below}
 use Rattle.lists.proofs.Sums.{sum_turn}
 use Rattle.places.specs.declared.Sizes.{Sizes}
+use Rattle.places.specs.Table.{max_lanes}
 use Rattle.locks.specs.declared.Part.{Part}
-use Rattle.locks.specs.Locks.{part_flag, part_count, part_writes, part_reads}
+use Rattle.locks.specs.Locks.{main_lock}
+use Rattle.locks.specs.Parts.{part_flag, part_count, part_writes, part_reads}
+use Rattle.locks.proofs.Measures.{flag_low, count_low, writes_low, reads_low}
 use Rattle.machine.specs.declared.Grip.{Grip}
 use Rattle.machine.specs.declared.Lane.{Lane}
-use Rattle.machine.specs.Lane.{lane_at}
-use Rattle.machine.specs.Steps.{main_lock, path_length}
+use Rattle.machine.specs.Back.{lane_at}
 use Rattle.machine.specs.Claims.{share}
+use Rattle.machine.specs.Stages.{places_of}
 use Rattle.machine.proofs.Single.{on_le}
 use Rattle.holds.specs.declared.shares.Shares.{Shares}
 use Rattle.holds.specs.Shares.{added, SumsFit}
-use Rattle.holds.proofs.Low.{flag_low, count_low, writes_low, reads_low}
 use Rattle.standing.specs.Looks.{length_at}
 use Rattle.standing.specs.Parts.{grip_in, shares_at, parts_to, shares_to}
+use Rattle.locks.specs.Locks.{main_lock}
 
 -- one lane more on the path, and all lanes
-pub used_turn : (vs : List ℕ) (j used n : ℕ) (l : Lane) → used ≡ sum_below j (length_at vs) → l ≡ lane_at vs j → n ≡ path_length l.stage → used + n ≡ sum_below (j + 1) (length_at vs)
+pub used_turn : (vs : List ℕ) (j used n : ℕ) (l : Lane) → used ≡ sum_below j (length_at vs) → l ≡ lane_at vs j → n ≡ places_of l → used + n ≡ sum_below (j + 1) (length_at vs)
 unfolding length_at
-used_turn vs j used n l inv el en = (λ i. inv i + (en ∙ ap (λ (m : Lane). path_length m.stage) el) i) ∙ sym (sum_turn (length_at vs) j)
+used_turn vs j used n l inv el en = (λ i. inv i + (en ∙ ap (λ (m : Lane). places_of m) el) i) ∙ sym (sum_turn (length_at vs) j)
 
 -- what a lane adds to a lock is at most 3, by a measure of which a part has at most 1
 sum_three : (n : ℕ) (f : ℕ → ℕ) → ((j : ℕ) → f j ≤ 3) → sum_below n f ≤ n * 3
@@ -32,14 +35,14 @@ unfolding sum_below
 sum_three zero f h = omega arith
 sum_three (suc n) f h = omega (arith, sum_three n f h, h n)
 
-module _ (z : Sizes) (f : Part → ℕ) (low : (p : Part) (n : ℕ) → n ≡ f p → n ≤ 1) (k : ℕ) where
+module _ (z : Sizes) (f : Part → ℕ) (low : (p : Part) → f p ≤ 1) (k : ℕ) where
   share_few : (g : Grip) → share z f g k ≤ 3
   share_few g =
-      omega (arith, on_le k (main_lock z) (f g.main), on_le k g.one.lock (f g.one.part), on_le k g.two.lock (f g.two.part), low g.main (f g.main) refl, low g.one.part (f g.one.part) refl, low g.two.part (f g.two.part) refl)
+      omega (arith, on_le k (main_lock z) (f g.main), on_le k g.one.lock (f g.one.part), on_le k g.two.lock (f g.two.part), low g.main, low g.one.part, low g.two.part)
 
-  parts_few : (vs ps : List ℕ) (n : ℕ) → n ≤ 8 → parts_to z vs ps k f n ≤ 24
+  parts_few : (vs ps : List ℕ) (n : ℕ) → parts_to z vs ps k f n ≤ n * 3
   unfolding parts_to
-  parts_few vs ps n l = omega (arith, sum_three n (λ j. share z f (grip_in z vs ps j) k) (λ j. share_few (grip_in z vs ps j)))
+  parts_few vs ps n = sum_three n (λ j. share z f (grip_in z vs ps j) k) (λ j. share_few (grip_in z vs ps j))
 
 -- each of the four is at most n
 record AtMost (n : ℕ) (s : Shares) : Type 0 where
@@ -59,18 +62,18 @@ module _ (z : Sizes) (vs ps : List ℕ) (k j : ℕ) where
         reads = share_few z part_reads reads_low k (grip_in z vs ps j);
       }
 
-  lanes_few : j ≤ 8 → AtMost 24 (shares_to z vs ps k j)
-  lanes_few l =
+  lanes_few : AtMost (j * 3) (shares_to z vs ps k j)
+  lanes_few =
       record {
-        flag = parts_few z part_flag flag_low k vs ps j l;
-        count = parts_few z part_count count_low k vs ps j l;
-        writes = parts_few z part_writes writes_low k vs ps j l;
-        reads = parts_few z part_reads reads_low k vs ps j l;
+        flag = parts_few z part_flag flag_low k vs ps j;
+        count = parts_few z part_count count_low k vs ps j;
+        writes = parts_few z part_writes writes_low k vs ps j;
+        reads = parts_few z part_reads reads_low k vs ps j;
       }
 
-  pub sums_fit : (s t : Shares) → j ≤ 8 → s ≡ shares_to z vs ps k j → t ≡ shares_at z vs ps k j → SumsFit s t
+  pub sums_fit : (s t : Shares) → j ≤ max_lanes → s ≡ shares_to z vs ps k j → t ≡ shares_at z vs ps k j → SumsFit s t
   sums_fit s t l es et =
-      let few = lanes_few l in
+      let few = lanes_few in
       let one = lane_few in
       rw (es, et) (record { flag = omega arith; count = omega arith; writes = omega arith; reads = omega arith })
 

@@ -29,7 +29,7 @@ impl Lent<'_> {
     fn row_stands(self, key: u32, c: RowClaim) -> bool
         ensures { result ≡ row_stands self.entry.z.sizes self.entry.slots.now key c }
     {
-        self.row_passes(c.row, c.lacking, |slot| !slot.holds_key(key))
+        self.row_passes(c.row, c.lacking, |slot| !slot.has_key(key))
             && self.row_passes(c.row, c.full, Slot::is_full)
     }
 
@@ -39,10 +39,10 @@ impl Lent<'_> {
     {
         match c {
             SlotClaim::NoClaim => true,
-            SlotClaim::HasKey(row, column) => self.slot_of(row, column).holds_key(key),
+            SlotClaim::HasKey(row, column) => self.slot_of(row, column).has_key(key),
             SlotClaim::HasPair(row, column, value) => {
                 let s = self.slot_of(row, column);
-                s.holds_key(key) && s.value == value
+                s.has_key(key) && s.value == value
             }
             SlotClaim::HasRoom(row, column) => self.slot_of(row, column).is_empty(),
         }
@@ -65,6 +65,6 @@ impl Lent<'_> {
             return false;
         }
         let seat = self.seat(j);
-        lane_in(seat.z, seat.lane, seat.last) && self.claims_stand(seat.lane.key, seat.claims())
+        lane_in(seat.z, seat.lane, seat.last) && self.claims_stand(seat.key(), seat.claims())
     }
 }

@@ -29,12 +29,12 @@ impl Lent<'_> {
         sum
     }
 
-    #[tactic(auto, unfolding(machine::specs::Standing::lock_stands, crate::specs::Parts::parts_to, crate::specs::Parts::grip_in))]
+    #[tactic(auto, unfolding(machine::specs::Standing::lock_stands, locks::specs::Parts::lock_tests, crate::specs::Parts::parts_to, crate::specs::Parts::grip_in))]
     pub(crate) fn lock_stands(self, k: u32) -> bool
         requires { k ≤ self.z.sizes.locks }
         ensures { result ≡ lock_stands self.entry.z.sizes (locks_table self.entry.locks.now self.entry.lanes.now self.entry.path.now) k }
     {
-        let lock = lock_at(self.locks, k as usize);
+        let lock = lock_at(self.z.sizes, self.locks, k as usize);
         let sum = self.all_shares(k);
         lock.flag == sum.flag
             && sum.flag <= 1

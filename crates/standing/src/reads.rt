@@ -3,14 +3,14 @@ ghost use Rattle.std.specs.Prelude.{◌≡◌, ◌<◌};
 ghost use Rattle.places.specs.Table.{slot_index};
 ghost use Rattle.slots.specs.Slot.{slot_at};
 ghost use Rattle.paths.specs.Path.{place_at, last_of};
-ghost use Rattle.machine.specs.Lane.{lane_at};
-ghost use Rattle.machine.specs.Steps.{path_length};
+ghost use Rattle.machine.specs.Back.{lane_at};
+ghost use Rattle.machine.specs.Stages.{places_of};
 
 use super::Lent;
-use acts::path_length;
+use acts::places_of;
 use holds::Seat;
 use machine::Lane;
-use paths::{Place, last_of, place_at};
+use paths::{Place, last_of, path_places, place_at};
 use records::lane_at;
 use slots::{Slot, slot_at};
 
@@ -32,7 +32,7 @@ impl Lent<'_> {
     pub(crate) fn place_of(self, i: usize) -> Place
         ensures { result ≡ place_at self.entry.path.now i }
     {
-        if i < (self.z.sizes.rows as usize) + 2 {
+        if i < path_places(self.z) as usize {
             place_at(self.path, i)
         } else {
             Place::none()
@@ -44,7 +44,7 @@ impl Lent<'_> {
         requires { j < self.z.sizes.lanes }
         ensures table { result.z.sizes ≡ self.entry.z.sizes }
         ensures lane { result.lane ≡ lane_at self.entry.lanes.now j }
-        ensures last { result.last ≡ last_of self.entry.path.now (path_length (lane_at self.entry.lanes.now j).stage) }
+        ensures last { result.last ≡ last_of self.entry.path.now (places_of (lane_at self.entry.lanes.now j)) }
     {
         let lane = lane_at(self.lanes, j);
         Seat {
@@ -56,10 +56,10 @@ impl Lent<'_> {
 
     // The last place on a lane's path.
     fn last_place(self, lane: Lane) -> Place
-        ensures { result ≡ last_of self.entry.path.now (path_length lane.stage) }
+        ensures { result ≡ last_of self.entry.path.now (places_of lane) }
     {
-        let n = path_length(lane.stage);
-        if n <= self.z.sizes.rows + 2 {
+        let n = places_of(lane);
+        if n <= path_places(self.z) {
             last_of(self.path, n)
         } else {
             Place::none()

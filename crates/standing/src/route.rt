@@ -7,8 +7,8 @@ ghost use Rattle.standing.specs.Partial.{path_table};
 ghost use Rattle.standing.specs.Looks.{placed_at, cleared_at, length_at, most_used};
 
 use super::Lent;
-use acts::path_length;
-use paths::Place;
+use acts::places_of;
+use paths::{Place, path_places};
 use places::MAX_KEY;
 use records::lane_at;
 
@@ -20,7 +20,7 @@ impl Lent<'_> {
     {
         let mut used = 0;
         for j in 0..self.z.sizes.lanes as usize {
-            used += path_length(lane_at(self.lanes, j).stage) as usize;
+            used += places_of(lane_at(self.lanes, j)) as usize;
         }
         used
     }
@@ -74,7 +74,7 @@ impl Lent<'_> {
     fn rest_unused(self, used: usize) -> bool
         ensures { result ≡ all_below (path_places self.entry.z.sizes) (cleared_at self.entry.path.now used) }
     {
-        (0..self.z.sizes.rows as usize + 2).all(|i| i < used || self.unused(i))
+        (0..path_places(self.z) as usize).all(|i| i < used || self.unused(i))
     }
 
     #[tactic(auto, unfolding(machine::specs::Standing::path_stands, crate::specs::Looks::length_at, crate::specs::Looks::placed_at, crate::specs::Looks::cleared_at))]

@@ -1,21 +1,20 @@
--- `decodes` is its definition: twelve comparisons are the fourteen of the definition, since a key and a value are read back as they are.
--- Assumes nothing.
-use mathlib.Core.Path.{◌∙◌, sym}
-use borrow.Author.Tests.{ne_eqb}
+-- `decodes` is its definition: the numbers that a record is to have are those of the lane that it is read as.
+use mathlib.Core.Path.{◌∙◌, ap}
+use lib.Dec.{eqb}
+use lib.ListN.{get_or}
+use Rattle.lists.specs.Below.{all_below}
 use Rattle.lists.specs.Records.{cell}
-use Rattle.records.specs.StageWords.{as_words}
-use Rattle.records.proofs.Stored.{compared, read_lane, op_compared}
+use Rattle.machine.specs.Lane.{lane_numbers, Words, in_a_row, numbers_of}
+use Rattle.machine.specs.Back.{decodes}
 use Rattle.records.proofs.decodes.Goals as goal
 
-pub returns-then-code-op_code : goal.returns-then-code-op_code
-unfolding cell
-returns-then-code-op_code c =
-    let stage = c.from-read.ensures ∙ rw c.from.ensures in
-    let op = c.if-code-op_code.true ∙ c.op_code.ensures ∙ rw c.op_of.ensures in
-    rw c.eq.ensures (
-    compared _ _ (as_words c.words_at-words.result) (as_words c.from-read.result) _ c.words_at-words.ensures op
-    ∙ read_lane _ _ _ _ c.words_at-words.ensures stage
-    )
+pub returns-in-Idle : goal.returns-in-Idle
+unfolding decodes numbers_of
+returns-in-Idle c =
+    c.has_numbers.ensures
+    ∙ ap (λ (w : Words). all_below lane_numbers (λ f. eqb (cell lane_numbers c.args.lanes.now c.args.i f) (get_or (in_a_row 0 0 0 w) f 0))) c.coded.ensures
+    ∙ rw (← c.lane_at.ensures, c.in-Idle.is)
 
-pub returns-else-code-op_code : goal.returns-else-code-op_code
-returns-else-code-op_code c = ne_eqb _ _ c.if-code-op_code.false ∙ sym (op_compared _ _ (λ e. c.if-code-op_code.false (e ∙ sym (c.op_code.ensures ∙ rw c.op_of.ensures))))
+pub returns-in-Busy : goal.returns-in-Busy
+unfolding all_below decodes numbers_of
+returns-in-Busy c = c.has_numbers-in-Busy.ensures ∙ rw (← c.lane_at.ensures, c.in-Busy.is, ← c.op_code.ensures, ← c.from.ensures)

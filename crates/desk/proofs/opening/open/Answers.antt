@@ -1,5 +1,4 @@
 -- `open` is its definition, one law of `Opens` for each way through it.
--- Assumes nothing.
 use Rattle.std.proofs.Common.{rules}
 use Rattle.std.proofs.lemmas.Result.{err_from_is_err_and}
 use Rattle.desk.proofs.Tested.{slots_long}

@@ -1,8 +1,7 @@
 -- `start` is its definition: refused by the tests that come first, or as the lanes decide it.
--- Assumes nothing.
 use Rattle.std.proofs.Common.{rules}
 use Rattle.std.proofs.lemmas.Result.{err_from_is_err_and}
-use Rattle.desk.proofs.Tested.{stood_as, tested_lanes}
+use Rattle.desk.proofs.Tested.{tested_lanes}
 use Rattle.desk.proofs.Starts.{starts_not, starts}
 use Rattle.desk.proofs.starting.start.Goals as goal
 
@@ -15,4 +14,4 @@ pub start_lane-requires : goal.start_lane-requires
 start_lane-requires c = search (rules, tested_lanes)
 
 pub returns : goal.returns
-returns c = starts _ _ _ _ _ _ _ c.in_ok-z.ensures (c.start_lane.ensures.keeps _ _ _ (stood_as _ _ _ c.in_ok-z.ensures))
+returns c = starts _ _ _ _ _ _ c.in_ok-z.ensures (c.start_lane.ensures _ _ _)

@@ -1,5 +1,4 @@
 -- `step` is its definition: refused by the tests that come first, or the step of a table that stands by its type.
--- Assumes nothing.
 use Rattle.std.proofs.Common.{rules}
 use Rattle.std.proofs.lemmas.Result.{err_from_is_err_and}
 use Rattle.desk.proofs.Tested.{stood_as}
@@ -15,4 +14,4 @@ pub invariant_of-table : goal.invariant_of-table
 invariant_of-table c = record { stood = stood_as _ _ _ c.in_ok-z.ensures }
 
 pub returns : goal.returns
-returns c = let k = steps _ _ _ _ _ _ _ c.in_ok-z.ensures c.step.ensures.keeps in search rules
+returns c = let k = steps _ _ _ _ _ _ c.in_ok-z.ensures c.step.ensures.call in search rules

@@ -1,7 +1,7 @@
 -- `shares_of` is its definition: each closure measures a part as the definition does.
 -- Assumes nothing.
 use Rattle.std.proofs.Common.{rules}
-use Rattle.locks.specs.Locks.{part_flag, part_count, part_writes, part_reads}
+use Rattle.locks.specs.Parts.{part_flag, part_count, part_writes, part_reads}
 use Rattle.holds.proofs.shares.shares_of.Goals as goal
 
 pub returns : goal.returns

@@ -3,5 +3,5 @@
 use Rattle.standing.proofs.Beyond.{last_past}
 use Rattle.standing.proofs.Lent.last_place.Goals as goal
 
-pub returns-else-n-self : goal.returns-else-n-self
-returns-else-n-self c = search last_past
+pub returns-else-n-path_places : goal.returns-else-n-path_places
+returns-else-n-path_places c = search last_past

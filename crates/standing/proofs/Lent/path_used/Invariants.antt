@@ -2,8 +2,9 @@
 use mathlib.Core.Path.{◌≡◌}
 use Prim.Native.Nat.{◌≤◌, ◌*◌}
 use Rattle.lists.specs.Below.{sum_below}
+use Rattle.lists.specs.Numbers.{max_number}
 use Rattle.standing.specs.Looks.{length_at}
 use Rattle.standing.proofs.Lent.path_used.Given as goal
 
 abbrev pub invariant-loop-j : goal.invariant-loop-j
-invariant-loop-j l = (l.used ≤ l.j * 4294967295) × (l.used ≡ sum_below l.j (length_at l.self.lanes.now))
+invariant-loop-j l = (l.used ≤ l.j * max_number) × (l.used ≡ sum_below l.j (length_at l.self.lanes.now))

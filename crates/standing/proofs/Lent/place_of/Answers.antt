@@ -3,5 +3,5 @@
 use Rattle.standing.proofs.Beyond.{place_past}
 use Rattle.standing.proofs.Lent.place_of.Goals as goal
 
-pub returns-else-i-self : goal.returns-else-i-self
-returns-else-i-self c = search place_past
+pub returns-else-i-path_places : goal.returns-else-i-path_places
+returns-else-i-path_places c = search place_past

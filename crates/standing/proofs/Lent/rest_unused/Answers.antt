@@ -7,4 +7,4 @@ use Rattle.standing.proofs.Lent.rest_unused.Goals as goal
 
 pub returns : goal.returns
 unfolding cleared_at
-returns c = all_in_range _ _ _ _ _ c.all.ensures.ran (λ x b q k. search (rules, tests))
+returns c = rw (← c.path_places.ensures) (all_in_range _ _ _ _ _ c.all.ensures.ran (λ x b q k. search (rules, tests)))

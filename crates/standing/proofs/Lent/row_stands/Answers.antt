@@ -3,7 +3,7 @@
 use mathlib.Core.Path.{◌≡◌, ◌∙◌, ap, sym}
 use mathlib.Core.Bool.{Bool, true, false, not, ◌&&◌}
 use Rattle.std.proofs.Common.{rules}
-use Rattle.slots.specs.Slot.{is_full, holds}
+use Rattle.slots.specs.Slot.{is_full, has_key}
 use Rattle.machine.specs.Standing.{row_stands}
 use Rattle.standing.proofs.Lent.row_stands.Goals as goal
 
@@ -18,11 +18,11 @@ pub returns-then-row_passes : goal.returns-then-row_passes
 unfolding row_stands
 returns-then-row_passes c =
     second_decides _ _ _ _
-    (c.row_passes.ensures (λ s. not (holds s c.args.key)) (λ s b k. search rules))
+    (c.row_passes.ensures (λ s. not (has_key s c.args.key)) (λ s b k. search rules))
     (c.row_passes-then-row_passes.ensures is_full (λ s b k. search rules))
     c.if-row_passes.true
 
 pub returns-else-row_passes : goal.returns-else-row_passes
 unfolding row_stands
 returns-else-row_passes c =
-    first_decides _ _ _ (c.row_passes.ensures (λ s. not (holds s c.args.key)) (λ s b k. search rules)) c.if-row_passes.false
+    first_decides _ _ _ (c.row_passes.ensures (λ s. not (has_key s c.args.key)) (λ s b k. search rules)) c.if-row_passes.false

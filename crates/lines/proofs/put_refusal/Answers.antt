@@ -1,9 +1,0 @@
--- `put_refusal` puts the pieces of its line one after the other.
--- Assumes nothing.
-use Rattle.prints.proofs.Puts.{puts_then}
-use Rattle.lines.specs.Lines.{refused_line}
-use Rattle.lines.proofs.put_refusal.Goals as goal
-
-pub returns : goal.returns
-unfolding refused_line
-returns c = search puts_then

@@ -1,9 +1,0 @@
--- `put_value` puts the pieces of its line one after the other.
--- Assumes nothing.
-use Rattle.prints.proofs.Puts.{puts_then}
-use Rattle.lines.specs.Lines.{value_line}
-use Rattle.lines.proofs.put_value.Goals as goal
-
-pub returns : goal.returns
-unfolding value_line
-returns c = search puts_then

@@ -1,5 +1,0 @@
--- `put_number` ends because the tenth is less.
-use Rattle.prints.proofs.Out.+put_number.Given as goal
-
-abbrev pub decreases-put_number : goal.decreases-put_number
-decreases-put_number l = l.n
