@@ -87,7 +87,11 @@ impl LentMemory<'_> {
         requires { ActFits self.now.z.sizes (memory_of self.now) (Act.Move from row column) }
         ensures { result ≡ can_move self.now.z.sizes self.now.slots.now from row column }
     {
-        self.slot(from.row, from.column).has_key(from.key) && self.slot(row, column).is_empty()
+        let slots = Slots {
+            z: self.z,
+            numbers: self.slots,
+        };
+        slots.look_for_key(from.row, from.column, from.key) && slots.look_for_room(row, column)
     }
 
     // One step of taking lock k.

@@ -15,6 +15,7 @@ use standing::Lent;
 
 // Every lent length is what the sizes need.
 #[tactic(auto, using(crate::proofs::Lengths::lengths_test))]
+#[inline(always)]
 fn lengths_ok(z: Layout, slots: &[u32], locks: &[u32], lanes: &[u32], path: &[u32]) -> bool
     ensures { result ≡ lengths_ok z.sizes (table slots.now locks.now lanes.now path.now) }
 {
@@ -44,6 +45,7 @@ pub(super) fn layout_of(
 
 // The layout of a table that stands: refusals 1, 2 and 9, in that order.
 #[tactic(auto, using(crate::proofs::Tested::sized_ok, crate::proofs::Tested::sized_long))]
+#[inline(always)]
 pub(super) fn upright(
     z: Sizes,
     slots: &[u32],

@@ -5,7 +5,7 @@ use mathlib.Core.Bool.{Bool, true, false, cond}
 use mathlib.Core.List.{List, [], ◌∷◌, ◌++◌, append_assoc}
 use Prim.Native.Nat.{ℕ, zero, suc, ◌+◌, ◌*◌, ◌≤◌, ◌<◌}
 use native.Mathlib.Omega.{arith}
-use lib.ListN.{length, take, replicate, length-append}
+use lib.ListN.{length, take, replicate}
 use borrow.Author.Tests.{lt-ltb, le-ltb}
 use denote.Ref.{Bor}
 use Rattle.std.specs.Prelude.{Option, None, Some, Result, Ok, Err}
@@ -36,7 +36,7 @@ use Rattle.job_records.specs.Finds.{Finds}
 use Rattle.job_records.proofs.Found.{found_some}
 use Rattle.prints.specs.declared.text.Out.{Out}
 use Rattle.prints.specs.Put.{Put, Puts}
-use Rattle.prints.proofs.Puts.{put_then, puts_none, puts_then}
+use Rattle.prints.proofs.Puts.{put_then, amid_room, puts_none, puts_then}
 use Rattle.prints.specs.Lines.{sizes_line}
 use Rattle.prints.specs.declared.lines.TheConstants.{REFUSAL_BYTES}
 use Rattle.jobs.specs.declared.TheConstants.{OUT_BYTES}
@@ -151,7 +151,7 @@ short_said s h p = rw (le-ltb max_bytes (length s) h) p
 -- one line more has room, and with the last line the print is whole
 module _ {A : Type 0} {d : Result A Stop} {was mid : Out} (s : List ℕ) (p : Said d was mid (print_of s)) (start : was.at ≡ 0) (room : OUT_BYTES ≤ length was.bytes.now) where
   pub last_room_lem : mid.at + REFUSAL_BYTES ≤ length mid.bytes.now
-  last_room_lem = omega (arith, p.puts.put.offset, p.puts.long, ap length p.joins, length-append p.front (last_line d), line_fits s)
+  last_room_lem = omega (arith, amid_room (record { done = p.front; put = p.puts.put; joins = p.joins }), p.puts.long, line_fits s)
 
   pub whole_print : {next at : ℕ} {bytes out : List ℕ} → at ≡ mid.at → bytes ≡ mid.bytes.now → Put next at bytes out (last_line d) → Prints next was.bytes.now out (print_of s)
   whole_print {next} {at} {bytes} {out} e f q =

@@ -18,8 +18,8 @@ pub fn advance(turn: Turn, seen: Seen) -> Moved
     let Seen { tried, slot: s } = seen;
     let to = |stage| goes_to(task, stage);
     match task.stage {
-        Stage::TakeMain(_) => to(tried.map_or(
-            Stage::Take(Side::First, row_grab(z.sizes, task.op)),
+        Stage::TakeMain(_) => to(tried.map_or_else(
+            || Stage::Take(Side::First, row_grab(z.sizes, task.op)),
             Stage::TakeMain,
         )),
         Stage::Take(side, _) => to(tried.map_or(Stage::Seek(side, 0), |g| Stage::Take(side, g))),

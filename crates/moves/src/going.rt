@@ -45,7 +45,7 @@ pub fn seek(z: Layout, task: Task, s: Slot, side: Side, column: u32) -> Moved
     let next = next_column(z.sizes, column);
     goes_to(
         task,
-        next.map_or(after_seek(z, task, side), |c| Stage::Seek(side, c)),
+        next.map_or_else(|| after_seek(z, task, side), |c| Stage::Seek(side, c)),
     )
 }
 

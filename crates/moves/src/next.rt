@@ -70,7 +70,7 @@ pub fn room(z: Sizes, op: Op, s: Slot, side: Side, column: u32) -> Stage
     if s.is_empty() {
         return Stage::WriteRoom(side, column);
     }
-    next_column(z, column).map_or(after_room(op, side), |c| Stage::SeekRoom(side, c))
+    next_column(z, column).map_or_else(|| after_room(op, side), |c| Stage::SeekRoom(side, c))
 }
 
 // Neither row has room.

@@ -54,6 +54,11 @@ amid_end {n} {at} {was} {out} {whole} a = let e : a.done ≡ whole = sym (append
 pub amid_length : {n at : ℕ} {was out rest whole : List ℕ} → Amid n at was out rest whole → length out ≡ length was
 amid_length a = put_length a.put
 
+-- what is still to come has room where the whole has
+pub amid_room : {n at : ℕ} {was out rest whole : List ℕ} → Amid n at was out rest whole → n + length rest ≡ at + length whole
+amid_room {n} {at} {was} {out} {rest} {whole} a =
+    let e : length a.done + length rest ≡ length whole = sym (length-append a.done rest) ∙ ap length a.joins in omega (arith, a.put.offset)
+
 -- ---- what is put goes on where the last piece ended
 
 pub puts_by : {was out : Out} {p : List ℕ} → Put out.at was.at was.bytes.now out.bytes.now p → out.bytes.ghost_name ≡ was.bytes.ghost_name → Puts was out p
